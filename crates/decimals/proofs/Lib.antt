@@ -1,0 +1,15 @@
+pub mod Whole
+pub mod Units
+pub mod Rounds
+pub mod Rounding
+pub mod Products
+pub mod Unique
+pub mod Tens
+pub mod Bytes
+pub mod Meaning
+pub mod Classes
+pub mod Digits
+pub mod Words
+pub mod Reading
+pub mod Value
+pub mod Counts

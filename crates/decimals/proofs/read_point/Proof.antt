@@ -1,0 +1,106 @@
+-- `decimals::read_point` meets its contract. Assumes nothing.
+use mathlib.Core.Path.{_≡_, sym, ap, _∙_}
+use mathlib.Core.List.{List, [], _∷_}
+use Prim.Native.Nat.{ℕ, _-_, _<_, _≤_}
+use native.Mathlib.Omega.{arith}
+use lib.ListN.{length, take, drop, length-drop}
+use Rattle.decimals.specs.declared.Class.the-variants.{Point}
+use Rattle.decimals.specs.Digits.{digits}
+use Rattle.decimals.specs.Numbers.{outcome}
+use Rattle.decimals.proofs.Classes.{is-class, not-class}
+use Rattle.decimals.proofs.Reading.{tail-of, digits-le, point-nil, point-no, point-law}
+use borrow.Author.Needs.{needs}
+use Rattle.decimals.proofs.read_point.Statement.{statement}
+use Rattle.decimals.proofs.read_point.Tie as tie
+
+fits-part : (t : List ℕ) (n : ℕ) → n ≡ length (digits t) → n ≤ length t
+fits-part t n e = omega (arith, digits-le t)
+
+part-le : (s : List ℕ) (n : ℕ) → n ≡ length (digits (take (length s - 1) (drop 1 s))) → n ≤ length s
+part-le s n e = omega (arith, digits-le (take (length s - 1) (drop 1 s)), ap length (tail-of s 1), length-drop 1 s)
+
+read-ending-requires : tie.Need-read-ending-requires
+read-ending-requires c κs = search needs
+
+returns : tie.Need-returns
+returns c = c .read-ending .ensures ∙ ap outcome (sym (point-nil _ _ _ _ (c .before .if1 .taken)))
+
+shared-slice-read-b : tie.Need-shared-slice-read-b
+shared-slice-read-b c = search needs
+
+class-of-requires : tie.Need-class-of-requires
+class-of-requires c κs = search needs
+
+enum-told : tie.Need-enum-told
+enum-told c = search needs
+
+sub-t : tie.Need-sub-t
+sub-t c = search needs
+
+part-t-start : tie.Need-part-t-start
+part-t-start c = search needs
+
+part-t-end : tie.Need-part-t-end
+part-t-end c = search needs
+
+leading-requires : tie.Need-leading-requires
+leading-requires c κs = search needs
+
+add-read-ending : tie.Need-add-read-ending
+add-read-ending c = omega (arith, c .before .before .before .before .before .before .before .before .pre .1, c .before .before .before .before .before .before .before .before .good .1 .1 .1 .0 .1, part-le (c .before .before .before .before .before .before .before .before .args .s .now) (c .leading .result .len) (c .leading .ensures .0))
+
+sub-read-ending : tie.Need-sub-read-ending
+sub-read-ending c = fits-part _ _ (c .leading .ensures .0)
+
+part-read-ending-start : tie.Need-part-read-ending-start
+part-read-ending-start c = fits-part _ _ (c .leading .ensures .0)
+
+part-read-ending-end : tie.Need-part-read-ending-end
+part-read-ending-end c = search needs
+
+read-ending-requires-2 : tie.Need-read-ending-requires-2
+read-ending-requires-2 c κs = omega (arith, c .before .before .before .before .before .before .before .before .before .good .1 .1 .1 .0 .1, part-le (c .before .before .before .before .before .before .before .before .before .args .s .now) (c .before .leading .result .len) (c .before .leading .ensures .0))
+
+read-ending-requires-3 : tie.Need-read-ending-requires-3
+read-ending-requires-3 c κs = search needs
+
+returns-2 : tie.Need-returns-2
+returns-2 c =
+    let e = c .before .before .before .before .before .before .before .before in
+    let a = e .before .before .args in
+    let s : List ℕ = a .s .now in
+    let h : 0 < length s = omega (arith, e .if1 .left) in
+    let l = c .before .before .leading .ensures in
+    c .read-ending2 .ensures
+    ∙ point-law (a .minus) (a .w) (a .count) s (take (length s - 1) (drop 1 s)) _ _ (tail-of s 1) (l .0) (l .1) h (is-class Point _ (c .before .before .before .before .before .before .class-of .ensures) (c .before .before .before .before .enum-told .given .1))
+
+returns-3 : tie.Need-returns-3
+returns-3 c =
+    let e = c .before .before .before .before in
+    let a = e .before .before .args in
+    let s : List ℕ = a .s .now in
+    let h : 0 < length s = omega (arith, e .if1 .left) in
+    c .read-ending3 .ensures
+    ∙ ap outcome (sym (point-no (a .minus) (a .w) (a .count) s h (not-class Point _ _ (0 ∷ 1 ∷ 2 ∷ 4 ∷ 5 ∷ []) (c .before .before .class-of .ensures) (c .before .match .keys2) tt)))
+
+pub read-point-spec : {M : Type 1} → statement M
+read-point-spec =
+    tie.close
+    (tie.spec
+    read-ending-requires
+    returns
+    shared-slice-read-b
+    class-of-requires
+    enum-told
+    sub-t
+    part-t-start
+    part-t-end
+    leading-requires
+    add-read-ending
+    sub-read-ending
+    part-read-ending-start
+    part-read-ending-end
+    read-ending-requires-2
+    read-ending-requires-3
+    returns-2
+    returns-3)

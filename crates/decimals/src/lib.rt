@@ -1,0 +1,368 @@
+// The class of a byte, decimal numbers and counts. specs/Numbers.antt says what is a number, specs/Nearest.antt which double it gives, and
+// specs/Counts.antt what is a count.
+ghost use mathlib.Core.Path.{_≡_};
+ghost use mathlib.Core.Bool.{false, cond};
+ghost use Prim.Native.Nat.{_+_, _-_, _*_, _^_, _<_, _≤_, min};
+ghost use lib.IntN.{pos};
+ghost use lib.ListN.{length};
+ghost use lib.Dec.{leb};
+ghost use lib.Ieee as Ieee;
+ghost use lib.Ieee.{binary64};
+ghost use Rattle.decimals.specs.Reach.{ten, signed, meaning};
+ghost use Rattle.decimals.specs.Bytes.{classOf, lower};
+ghost use Rattle.decimals.specs.Digits.{digits, value};
+ghost use Rattle.decimals.specs.Numbers.{spells, power, exponent, ending, point, unsigned, outcome, numberOf, readingOf, AsRead};
+ghost use Rattle.decimals.specs.Cap.{cap};
+ghost use Rattle.decimals.specs.Counts.{whole, countOf};
+
+pub enum Number {
+    Value(f64),
+    Malformed,
+    Beyond,
+}
+
+// 10^0 to 10^22: each is a double exactly.
+const TENS: [f64; 23] = [
+    1.0,
+    1e1,
+    1e2,
+    1e3,
+    1e4,
+    1e5,
+    1e6,
+    1e7,
+    1e8,
+    1e9,
+    1e10,
+    1e11,
+    1e12,
+    1e13,
+    1e14,
+    1e15,
+    1e16,
+    1e17,
+    1e18,
+    1e19,
+    1e20,
+    1e21,
+    1e22,
+];
+
+fn power_of_ten(k: usize) -> f64
+    requires { ⌜ k < 23 ⌝ }
+    ensures { λ r. ⌜ r ≡ ten k ⌝ }
+{
+    TENS[k]
+}
+
+fn with_sign(minus: bool, x: f64) -> f64
+    ensures { λ r. ⌜ r ≡ signed minus x ⌝ }
+{
+    if minus { -x } else { x }
+}
+
+fn multiplied(minus: bool, w: u64, k: usize) -> Number
+    requires { ⌜ w ≤ 2 ^ 53 ⌝ }
+    ensures { λ r. ⌜ r ≡ cond (leb k 22) (Number.Value (signed minus (Ieee.mul binary64 (Ieee.ofInt binary64 (pos w)) (ten k)))) Number.Beyond ⌝ }
+{
+    if k > 22 {
+        return Number::Beyond;
+    }
+    let x = w as f64;
+    let y = x * power_of_ten(k);
+    Number::Value(with_sign(minus, y))
+}
+
+fn divided(minus: bool, w: u64, k: usize) -> Number
+    requires { ⌜ w ≤ 2 ^ 53 ⌝ }
+    ensures { λ r. ⌜ r ≡ cond (leb k 22) (Number.Value (signed minus (Ieee.div binary64 (Ieee.ofInt binary64 (pos w)) (ten k)))) Number.Beyond ⌝ }
+{
+    if k > 22 {
+        return Number::Beyond;
+    }
+    let x = w as f64;
+    let y = x / power_of_ten(k);
+    Number::Value(with_sign(minus, y))
+}
+
+// ±w * 10^up / 10^down
+fn valued(minus: bool, w: u64, up: usize, down: usize) -> Number
+    ensures { λ r. ⌜ r ≡ meaning minus w up down ⌝ }
+{
+    if w == 0 {
+        let zero = with_sign(minus, 0.0);
+        return Number::Value(zero);
+    }
+    if w > 9007199254740992 {
+        return Number::Beyond;
+    }
+    if down <= up {
+        multiplied(minus, w, up - down)
+    } else {
+        divided(minus, w, down - up)
+    }
+}
+
+// ---- bytes
+
+pub enum Class {
+    Space,
+    Digit,
+    Sign,
+    Point,
+    Exponent,
+    Other,
+}
+
+pub fn class_of(b: u8) -> Class
+    ensures { λ r. ⌜ r ≡ classOf b ⌝ }
+{
+    match b {
+        9..=13 | 32 => Class::Space,
+        48..=57 => Class::Digit,
+        43 | 45 => Class::Sign,
+        46 => Class::Point,
+        69 | 101 => Class::Exponent,
+        _ => Class::Other,
+    }
+}
+
+// A letter in lower case.
+fn lowered(b: u8) -> u8
+    ensures { λ r. ⌜ r ≡ lower b ⌝ }
+{
+    match b {
+        65..=90 => b + 32,
+        _ => b,
+    }
+}
+
+// ---- parts of a text
+
+// Whether s is the word w, in any case of its letters.
+fn is_word(s: &[u8], w: &[u8]) -> bool
+    ensures { λ r. ⌜ r ≡ spells (now (s .entry)) (now (w .entry)) ⌝ }
+{
+    if s.len() != w.len() {
+        return false;
+    }
+    let mut i = 0;
+    while i < s.len() {
+        if lowered(s[i]) != w[i] {
+            return false;
+        }
+        i += 1;
+    }
+    true
+}
+
+// What a digit counts.
+fn digit_value(b: u8) -> u64
+    requires { ⌜ (48 ≤ b) × (b ≤ 57) ⌝ }
+    ensures { λ r. ⌜ r ≡ b - 48 ⌝ }
+{
+    (b - 48) as u64
+}
+
+// v with one digit more, up to a number past which it no longer matters.
+fn extended(v: u64, b: u8) -> u64
+    requires { ⌜ (48 ≤ b) × (b ≤ 57) ⌝ }
+    ensures { λ r. ⌜ r ≡ min (v * 10 + (b - 48)) cap ⌝ }
+{
+    if v < 1844674407370955161 {
+        v * 10 + digit_value(b)
+    } else {
+        18446744073709551610
+    }
+}
+
+// The digits that a text begins with: how many they are, and the number that they are, with the
+// digits of `start` before them.
+struct Run {
+    len: usize,
+    value: u64,
+}
+
+fn leading(s: &[u8], start: u64) -> Run
+    requires { ⌜ start ≤ cap ⌝ }
+    ensures { λ r. ⌜ (r .len ≡ length (digits (now (s .entry)))) × (r .value ≡ min (value start (digits (now (s .entry)))) cap) ⌝ }
+{
+    let mut i = 0;
+    let mut v = start;
+    while i < s.len() {
+        let b = s[i];
+        match class_of(b) {
+            Class::Digit => {
+                v = extended(v, b);
+            }
+            _ => {
+                return Run { len: i, value: v };
+            }
+        }
+        i += 1;
+    }
+    Run { len: i, value: v }
+}
+
+// ---- a number, part by part: each function reads what is left, as the definition of the same part
+// in specs/Numbers.antt does
+
+// s is an exponent after its sign.
+fn read_power(minus: bool, w: u64, frac: usize, back: bool, s: &[u8]) -> Number
+    requires { ⌜ frac < 2 ^ 63 ⌝ }
+    ensures { λ r. ⌜ r ≡ outcome (power minus w frac back (now (s .entry))) ⌝ }
+{
+    let d = leading(s, 0);
+    let n = d.len;
+    let x = d.value as usize;
+    if n == 0 {
+        return Number::Malformed;
+    }
+    if n < s.len() {
+        return Number::Malformed;
+    }
+    if back {
+        if x > 22 {
+            valued(minus, w, 0, frac + 23)
+        } else {
+            valued(minus, w, 0, frac + x)
+        }
+    } else {
+        valued(minus, w, x, frac)
+    }
+}
+
+// s is what follows the letter e.
+fn read_exponent(minus: bool, w: u64, frac: usize, s: &[u8]) -> Number
+    requires { ⌜ frac < 2 ^ 63 ⌝ }
+    ensures { λ r. ⌜ r ≡ outcome (exponent minus w frac (now (s .entry))) ⌝ }
+{
+    if s.len() == 0 {
+        return Number::Malformed;
+    }
+    let b = s[0];
+    match class_of(b) {
+        Class::Sign => read_power(minus, w, frac, b == 45, &s[1..]),
+        _ => read_power(minus, w, frac, false, s),
+    }
+}
+
+// s is what follows the digits: `count` of them, `frac` of them after the point.
+fn read_ending(minus: bool, w: u64, count: usize, frac: usize, s: &[u8]) -> Number
+    requires { ⌜ frac < 2 ^ 63 ⌝ }
+    ensures { λ r. ⌜ r ≡ outcome (ending minus w count frac (now (s .entry))) ⌝ }
+{
+    if count == 0 {
+        return Number::Malformed;
+    }
+    if s.len() == 0 {
+        return valued(minus, w, 0, frac);
+    }
+    let b = s[0];
+    match class_of(b) {
+        Class::Exponent => read_exponent(minus, w, frac, &s[1..]),
+        _ => Number::Malformed,
+    }
+}
+
+// s is what follows the digits before the point.
+fn read_point(minus: bool, w: u64, count: usize, s: &[u8]) -> Number
+    requires { ⌜ (w ≤ cap) × (count < 2 ^ 63) ⌝ }
+    ensures { λ r. ⌜ r ≡ outcome (point minus w count (now (s .entry))) ⌝ }
+{
+    if s.len() == 0 {
+        return read_ending(minus, w, count, 0, s);
+    }
+    let b = s[0];
+    match class_of(b) {
+        Class::Point => {
+            let t = &s[1..];
+            let d = leading(t, w);
+            let n = d.len;
+            let v = d.value;
+            read_ending(minus, v, count + n, n, &t[n..])
+        }
+        _ => read_ending(minus, w, count, 0, s),
+    }
+}
+
+// s is a number after its sign.
+fn read_unsigned(minus: bool, s: &[u8]) -> Number
+    ensures { λ r. ⌜ r ≡ outcome (unsigned minus (now (s .entry))) ⌝ }
+{
+    if is_word(s, b"inf") {
+        return Number::Value(with_sign(minus, 1.0 / 0.0));
+    }
+    if is_word(s, b"infinity") {
+        return Number::Value(with_sign(minus, 1.0 / 0.0));
+    }
+    if is_word(s, b"nan") {
+        return Number::Value(0.0 / 0.0);
+    }
+    let d = leading(s, 0);
+    let n = d.len;
+    let v = d.value;
+    read_point(minus, v, n, &s[n..])
+}
+
+pub fn read_number(s: &[u8]) -> Number
+    ensures { λ r. ⌜ r ≡ numberOf (now (s .entry)) ⌝ }
+    ensures nearest { λ r. ⌜ AsRead (readingOf (now (s .entry))) r ⌝ }
+{
+    if s.len() == 0 {
+        return Number::Malformed;
+    }
+    let b = s[0];
+    match class_of(b) {
+        Class::Sign => read_unsigned(b == 45, &s[1..]),
+        _ => read_unsigned(false, s),
+    }
+}
+
+// ---- a count
+
+pub enum Count {
+    Whole(u64),
+    Uncounted,
+}
+
+// s is a count after its sign. A digit is taken only where the count stays below 2^64.
+fn read_whole(s: &[u8]) -> Count
+    ensures { λ r. ⌜ r ≡ whole (now (s .entry)) ⌝ }
+{
+    if s.len() == 0 {
+        return Count::Uncounted;
+    }
+    let mut i = 0;
+    let mut v = 0;
+    while i < s.len() {
+        let b = s[i];
+        match class_of(b) {
+            Class::Digit => {
+                let d = digit_value(b);
+                if v > (18446744073709551615 - d) / 10 {
+                    return Count::Uncounted;
+                }
+                v = v * 10 + d;
+            }
+            _ => {
+                return Count::Uncounted;
+            }
+        }
+        i += 1;
+    }
+    Count::Whole(v)
+}
+
+pub fn read_count(s: &[u8]) -> Count
+    ensures { λ r. ⌜ r ≡ countOf (now (s .entry)) ⌝ }
+{
+    if s.len() == 0 {
+        return Count::Uncounted;
+    }
+    if s[0] == 43 {
+        read_whole(&s[1..])
+    } else {
+        read_whole(s)
+    }
+}
