@@ -1,0 +1,249 @@
+// Lines, fields and fixed words. A line is the caller's text up to the line's end, with the place where it starts: so every place is a place of the text.
+ghost use mathlib.Core.Path.{_≡_};
+ghost use mathlib.Core.List.{[], _∷_};
+ghost use Prim.Native.Nat.{ℕ, _+_, _-_, _≤_, _<_};
+ghost use lib.ListN.{length, take, drop};
+ghost use Rattle.fields.specs.Lines.{isSpace, lineLen, endTrimmed, trimmed, lineKind, kindBy, cutOf};
+ghost use Rattle.fields.specs.Fields.{part, fieldsAt, lettersOr, Next, Past};
+ghost use Rattle.fields.specs.Words.{same, raised, spelled, begins};
+ghost use Rattle.fields.specs.Scan.{isKind, spanLen};
+use decimals::Class;
+
+// ---- lines
+
+pub enum LineKind {
+    Blank,
+    Header,
+    Other,
+}
+
+pub fn is_space(b: u8) -> bool
+    ensures { λ r. ⌜ r ≡ isSpace b ⌝ }
+{
+    let k = decimals::class_of(b);
+    if let Class::Space = k { true } else { false }
+}
+
+// What the scan below passes over.
+enum Kind {
+    Space,
+    Word,
+    Kept,
+}
+
+fn is_kind(k: Kind, b: u8) -> bool
+    ensures { λ r. ⌜ r ≡ isKind k b ⌝ }
+{
+    match k {
+        Kind::Space => is_space(b),
+        Kind::Word => !is_space(b),
+        Kind::Kept => b != 59,
+    }
+}
+
+// Where the bytes of the kind end, from `at` on.
+fn reach(l: &[u8], at: usize, k: Kind) -> usize
+    ensures { λ r. ⌜ r ≡ at + spanLen k (drop at (now (l .entry))) ⌝ }
+{
+    let mut i = at;
+    while i < l.len() {
+        let ok = is_kind(k, l[i]);
+        if ok {
+            i += 1;
+        } else {
+            return i;
+        }
+    }
+    i
+}
+
+// As much of the text from `at` on as there is, at most `n` bytes.
+pub fn cut(text: &[u8], at: usize, n: usize) -> &[u8]
+    ensures { λ r. ⌜ now r ≡ take n (drop at (now (text .entry))) ⌝ }
+{
+    let len = text.len();
+    if len < at {
+        return &text[len..];
+    }
+    if len - at < n {
+        return &text[at..];
+    }
+    let e = at + n;
+    &text[at..e]
+}
+
+// Where the line at `at` ends, its line feed with it.
+pub fn line_end(text: &[u8], at: usize) -> usize
+    ensures { λ r. ⌜ r ≡ at + lineLen (drop at (now (text .entry))) ⌝ }
+{
+    let mut i = at;
+    while i < text.len() {
+        if text[i] == 10 {
+            return i + 1;
+        }
+        i += 1;
+    }
+    i
+}
+
+fn kind_by(b: u8) -> LineKind
+    ensures { λ r. ⌜ r ≡ kindBy (b ∷ []) ⌝ }
+{
+    match b {
+        59 => LineKind::Blank,
+        91 => LineKind::Header,
+        _ => LineKind::Other,
+    }
+}
+
+pub fn line_kind(l: &[u8], at: usize) -> LineKind
+    ensures { λ r. ⌜ r ≡ lineKind (drop at (now (l .entry))) ⌝ }
+{
+    let i = reach(l, at, Kind::Space);
+    if i < l.len() {
+        return kind_by(l[i]);
+    }
+    LineKind::Blank
+}
+
+// Where the last byte that is no whitespace ends.
+fn trim_end(l: &[u8]) -> usize
+    ensures { λ r. ⌜ r ≡ length (endTrimmed (now (l .entry))) ⌝ }
+{
+    let mut e = l.len();
+    while 0 < e {
+        if is_space(l[e - 1]) {
+            e -= 1;
+        } else {
+            return e;
+        }
+    }
+    e
+}
+
+// A line without the whitespace at its ends.
+pub fn trimmed(l: &[u8]) -> &[u8]
+    ensures { λ r. ⌜ now r ≡ trimmed (now (l .entry)) ⌝ }
+{
+    let a = reach(l, 0, Kind::Space);
+    let d = cut(l, a, l.len());
+    let e = trim_end(d);
+    cut(d, 0, e)
+}
+
+// Where the line from `at` on is cut: at its first `;`.
+pub fn cut_end(l: &[u8], at: usize) -> usize
+    ensures { λ r. ⌜ r ≡ at + length (cutOf (drop at (now (l .entry)))) ⌝ }
+{
+    reach(l, at, Kind::Kept)
+}
+
+// ---- fields
+
+// The bytes from `at` up to `end`.
+pub struct Span {
+    pub at: usize,
+    pub end: usize,
+}
+
+pub enum Field {
+    Taken(Span),
+    Nothing,
+}
+
+// The bytes of a span, as many as the text has.
+pub fn letters_of(l: &[u8], s: Span) -> &[u8]
+    ensures { λ r. ⌜ now r ≡ part (s .at) (s .end) (now (l .entry)) ⌝ }
+{
+    if s.end < s.at {
+        return cut(l, s.at, 0);
+    }
+    cut(l, s.at, s.end - s.at)
+}
+
+// The next field from `at` on.
+pub fn next_field(l: &[u8], at: usize) -> Field
+    ensures { λ r. ⌜ Next (now (l .entry)) at r ⌝ }
+{
+    let start = reach(l, at, Kind::Space);
+    if start < l.len() {
+        let end = reach(l, start, Kind::Word);
+        return Field::Taken(Span { at: start, end });
+    }
+    Field::Nothing
+}
+
+// Where the next field ends: the fields from there on are the rest.
+pub fn past_field(l: &[u8], at: usize) -> usize
+    ensures { λ r. ⌜ Past (now (l .entry)) at r ⌝ }
+{
+    let f = next_field(l, at);
+    let Field::Taken(s) = f else {
+        return at;
+    };
+    s.end
+}
+
+// The next field's bytes, a part of the line; or, where there is none, the other text.
+pub fn field_or<'a>(l: &'a [u8], at: usize, other: &'a [u8]) -> &'a [u8]
+    ensures { λ r. ⌜ now r ≡ lettersOr (now (other .entry)) (fieldsAt (now (l .entry)) at) ⌝ }
+{
+    let f = next_field(l, at);
+    let Field::Taken(s) = f else {
+        return other;
+    };
+    letters_of(l, s)
+}
+
+// ---- words
+
+// Whether two texts are the same.
+pub fn equal(a: &[u8], b: &[u8]) -> bool
+    ensures { λ r. ⌜ r ≡ same (now (a .entry)) (now (b .entry)) ⌝ }
+{
+    if a.len() != b.len() {
+        return false;
+    }
+    let mut i = 0;
+    while i < a.len() {
+        if a[i] != b[i] {
+            return false;
+        }
+        i += 1;
+    }
+    true
+}
+
+// A letter a to z raised.
+fn raise(b: u8) -> u8
+    ensures { λ r. ⌜ r ≡ raised b ⌝ }
+{
+    match b {
+        97..=122 => b - 32,
+        _ => b,
+    }
+}
+
+// Whether a text, its letters raised, is the word.
+pub fn spells(a: &[u8], w: &[u8]) -> bool
+    ensures { λ r. ⌜ r ≡ spelled (now (a .entry)) (now (w .entry)) ⌝ }
+{
+    if a.len() != w.len() {
+        return false;
+    }
+    let mut i = 0;
+    while i < a.len() {
+        if raise(a[i]) != w[i] {
+            return false;
+        }
+        i += 1;
+    }
+    true
+}
+
+// Whether a text begins with the word.
+pub fn starts_with(a: &[u8], w: &[u8]) -> bool
+    ensures { λ r. ⌜ r ≡ begins (now (a .entry)) (now (w .entry)) ⌝ }
+{
+    equal(cut(a, 0, w.len()), w)
+}
