@@ -1,0 +1,1 @@
+// What a line does to a reading, over any records: definitions and theorems only.
