@@ -1,0 +1,11 @@
+-- What the proofs of several functions use, here and in the crates that link this one.
+pub mod RegionLaws
+pub mod BlockLaws
+pub mod SizeLaws
+pub mod HoldLaws
+pub mod EmptyLaws
+pub mod ReadLaws
+pub mod ClearLaws
+pub mod LookLaws
+pub mod AfterLaws
+pub mod BackLaws

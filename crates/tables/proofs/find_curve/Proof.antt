@@ -1,0 +1,17 @@
+use Rattle.tables.proofs.ReadLaws.{curve-rows}
+use Rattle.tables.proofs.find_curve.Statement.{statement}
+use Rattle.tables.proofs.find_curve.Tie as tie
+use Rattle.tables.proofs.find_curve.Reads as reads
+use Rattle.tables.proofs.find_curve.Lts as lts
+use Rattle.tables.proofs.find_name.Reads as find-name-reads
+
+find-name-requires : tie.Need-find-name-requires
+find-name-requires c κs =
+    let p = c .before .before .before .pre in
+    record { names = (p .0) .curves; long = p .2; rows = curve-rows (p .1) }
+
+returns : tie.Need-returns
+returns c = λ m h e. c .find-name .ensures (m .curves) (e) (curve-rows h)
+
+pub find-curve-spec : {M : Type 1} → statement M
+find-curve-spec = tie.close (tie.spec find-name-requires returns)

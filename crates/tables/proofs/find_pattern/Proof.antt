@@ -1,0 +1,17 @@
+use Rattle.tables.proofs.ReadLaws.{pattern-rows}
+use Rattle.tables.proofs.find_pattern.Statement.{statement}
+use Rattle.tables.proofs.find_pattern.Tie as tie
+use Rattle.tables.proofs.find_pattern.Reads as reads
+use Rattle.tables.proofs.find_pattern.Lts as lts
+use Rattle.tables.proofs.find_name.Reads as find-name-reads
+
+find-name-requires : tie.Need-find-name-requires
+find-name-requires c κs =
+    let p = c .before .before .before .pre in
+    record { names = (p .0) .patterns; long = p .2; rows = pattern-rows (p .1) }
+
+returns : tie.Need-returns
+returns c = λ m h e. c .find-name .ensures (m .patterns) (e) (pattern-rows h)
+
+pub find-pattern-spec : {M : Type 1} → statement M
+find-pattern-spec = tie.close (tie.spec find-name-requires returns)

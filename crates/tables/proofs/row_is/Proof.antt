@@ -1,0 +1,78 @@
+use Prim.Native.Nat.{ℕ}
+use native.Mathlib.Omega.{arith}
+use denote.Ref.{now}
+use mathlib.Core.Path.{_∙_, ap}
+use mathlib.Core.List.{List}
+use Rattle.fields.specs.Words.{same}
+use Rattle.tables.proofs.LookLaws.{other-key, row-letters, row-fits}
+use borrow.Author.Needs.{needs}
+use Rattle.tables.proofs.row_is.Statement.{statement}
+use Rattle.tables.proofs.row_is.Tie as tie
+use Rattle.tables.proofs.row_is.Reads as reads
+use Rattle.tables.proofs.row_is.Lts as lts
+use Rattle.fields.proofs.equal.Reads as equal-reads
+
+add-if1 : tie.Need-add-if1
+add-if1 c = search needs
+
+mul-if1 : tie.Need-mul-if1
+mul-if1 c = search needs
+
+shared-slice-read-if1 : tie.Need-shared-slice-read-if1
+shared-slice-read-if1 c = search needs
+
+returns : tie.Need-returns
+returns c = λ n r. other-key r (now (c .before .before .before .before .before .args .name)) (λ e. omega (arith, c .before .before .before .before .before .pre .1, e))
+
+mul-a : tie.Need-mul-a
+mul-a c = search needs
+
+shared-slice-read-a : tie.Need-shared-slice-read-a
+shared-slice-read-a c = search needs
+
+add-n : tie.Need-add-n
+add-n c = search needs
+
+mul-n : tie.Need-mul-n
+mul-n c = search needs
+
+shared-slice-read-n : tie.Need-shared-slice-read-n
+shared-slice-read-n c = search needs
+
+add-e : tie.Need-add-e
+add-e c = search needs
+
+sub-equal : tie.Need-sub-equal
+sub-equal c = search needs
+
+part-equal-start : tie.Need-part-equal-start
+part-equal-start c = search needs
+
+part-equal-end : tie.Need-part-equal-end
+part-equal-end c = search needs
+
+equal-requires : tie.Need-equal-requires
+equal-requires c κs = search needs
+
+returns-2 : tie.Need-returns-2
+returns-2 c = λ n r. c .equal .ensures ∙ ap (λ (l : List ℕ). same l (now (c .before .before .before .before .before .before .before .before .before .args .name))) (row-letters r)
+
+pub row-is-spec : {M : Type 1} → statement M
+row-is-spec =
+    tie.close
+    (tie.spec
+    add-if1
+    mul-if1
+    shared-slice-read-if1
+    returns
+    mul-a
+    shared-slice-read-a
+    add-n
+    mul-n
+    shared-slice-read-n
+    add-e
+    sub-equal
+    part-equal-start
+    part-equal-end
+    equal-requires
+    returns-2)

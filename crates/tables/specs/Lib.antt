@@ -1,0 +1,5 @@
+-- What the contracts of this crate cite.
+pub mod Table
+pub mod Layout
+pub mod Holding
+pub mod Back

@@ -1,0 +1,3 @@
+-- What the proofs of this crate, and of the section readers, use.
+pub mod TakeLaws
+pub mod TextLaws

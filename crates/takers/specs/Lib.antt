@@ -1,0 +1,2 @@
+-- What the contracts of this crate, and of the section readers, cite.
+pub mod Taking

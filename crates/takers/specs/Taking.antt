@@ -1,0 +1,39 @@
+-- The code's answers as those of scope's Values: what was taken, and the fields that are left. Assumes nothing.
+use Prim.Native.Nat.{ℕ}
+use mathlib.Core.Bool.{Bool}
+use mathlib.Core.List.{List}
+use lib.Ieee.{Float}
+use Rattle.decimals.specs.declared.Number as N
+use Rattle.decimals.specs.declared.Number.the-variants as number
+use Rattle.fields.specs.Fields.{fieldsAt}
+pub use Rattle.fields.specs.Fields.{optIn, MayFit}
+use Rattle.scope.specs.declared.Reason.{Reason}
+use Rattle.scope.specs.declared.Reason.the-variants.{Missing, Malformed, Beyond}
+use Rattle.scope.specs.Values.{Took, took, refused}
+use Rattle.takers.specs.declared.TookNumber.{TookNumber}
+use Rattle.takers.specs.declared.TookNumber.the-variants.{Number, NoNumber}
+use Rattle.takers.specs.declared.TookFlag.{TookFlag}
+use Rattle.takers.specs.declared.TookFlag.the-variants.{Flag, NoFlag}
+
+abbrev pub tookNumber : List ℕ → TookNumber → Took Float
+tookNumber l (Number x next) = took x (fieldsAt l next)
+tookNumber l (NoNumber why) = refused why
+
+abbrev pub tookFlag : List ℕ → TookFlag → Took Bool
+tookFlag l (Flag b next) = took b (fieldsAt l next)
+tookFlag l (NoFlag why) = refused why
+
+-- from a number that was read, with the place where its field ends
+abbrev pub numberTook : N.Number → ℕ → TookNumber
+numberTook (number.Value x) next = Number x next
+numberTook number.Malformed next = NoNumber Malformed
+numberTook number.Beyond next = NoNumber Beyond
+
+abbrev pub swallowTook : Float → N.Number → ℕ → TookNumber
+swallowTook d (number.Value x) next = Number x next
+swallowTook d number.Malformed next = Number d next
+swallowTook d number.Beyond next = NoNumber Beyond
+
+abbrev pub reasonIn : TookNumber → Reason
+reasonIn (Number x next) = Missing
+reasonIn (NoNumber why) = why

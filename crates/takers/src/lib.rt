@@ -1,0 +1,106 @@
+// Takes the next field of a line as a number or a flag. A line is the caller's text up to the line's end, with the place where its next field is looked for:
+// so every place is a place of the text. Names are taken by fields::next_field.
+ghost use mathlib.Core.Path.{_≡_};
+ghost use Rattle.fields.specs.Fields.{fieldsAt};
+ghost use Rattle.scope.specs.Values.{numberFrom, numberOr, swallowedFrom, flagFrom};
+ghost use Rattle.takers.specs.Taking.{tookNumber, tookFlag, numberTook, swallowTook, reasonIn};
+use decimals::Number;
+use fields::Field;
+use scope::Reason;
+
+// A number and where its field ends, or why there is none.
+pub enum TookNumber {
+    Number(f64, usize),
+    NoNumber(Reason),
+}
+
+pub enum TookFlag {
+    Flag(bool, usize),
+    NoFlag(Reason),
+}
+
+pub fn as_number(n: Number, next: usize) -> TookNumber
+    ensures { λ r. ⌜ r ≡ numberTook n next ⌝ }
+{
+    match n {
+        Number::Value(x) => TookNumber::Number(x, next),
+        Number::Malformed => TookNumber::NoNumber(Reason::Malformed),
+        Number::Beyond => TookNumber::NoNumber(Reason::Beyond),
+    }
+}
+
+// A number that must be there.
+pub fn take_number(l: &[u8], at: usize) -> TookNumber
+    ensures { λ r. ⌜ tookNumber (now (l .entry)) r ≡ numberFrom (fieldsAt (now (l .entry)) at) ⌝ }
+{
+    let f = fields::next_field(l, at);
+    let Field::Taken(s) = f else {
+        return TookNumber::NoNumber(Reason::Missing);
+    };
+    as_number(decimals::read_number(fields::letters_of(l, s)), s.end)
+}
+
+// A number that is read from the other text where it is missing.
+pub fn take_number_or<'a>(l: &'a [u8], at: usize, other: &'a [u8]) -> TookNumber
+    ensures { λ r. ⌜ tookNumber (now (l .entry)) r ≡ numberOr (now (other .entry)) (fieldsAt (now (l .entry)) at) ⌝ }
+{
+    let text = fields::field_or(l, at, other);
+    let next = fields::past_field(l, at);
+    as_number(decimals::read_number(text), next)
+}
+
+// A malformed number is `other`; one beyond reach is refused even here.
+pub fn swallow(n: Number, other: f64, next: usize) -> TookNumber
+    ensures { λ r. ⌜ r ≡ swallowTook other n next ⌝ }
+{
+    let Number::Value(x) = n else {
+        let Number::Malformed = n else {
+            return TookNumber::NoNumber(Reason::Beyond);
+        };
+        return TookNumber::Number(other, next);
+    };
+    TookNumber::Number(x, next)
+}
+
+// A number that is `other` where it is missing or malformed.
+pub fn take_swallowed(l: &[u8], at: usize, other: f64) -> TookNumber
+    ensures { λ r. ⌜ tookNumber (now (l .entry)) r ≡ swallowedFrom other (fieldsAt (now (l .entry)) at) ⌝ }
+{
+    let f = fields::next_field(l, at);
+    let Field::Taken(s) = f else {
+        return TookNumber::Number(other, at);
+    };
+    swallow(
+        decimals::read_number(fields::letters_of(l, s)),
+        other,
+        s.end,
+    )
+}
+
+// Exactly true or false, false where it is missing.
+pub fn take_flag(l: &[u8], at: usize) -> TookFlag
+    ensures { λ r. ⌜ tookFlag (now (l .entry)) r ≡ flagFrom (fieldsAt (now (l .entry)) at) ⌝ }
+{
+    let f = fields::next_field(l, at);
+    let Field::Taken(s) = f else {
+        return TookFlag::Flag(false, at);
+    };
+    let word = fields::letters_of(l, s);
+    if fields::equal(word, b"true") {
+        return TookFlag::Flag(true, s.end);
+    }
+    if fields::equal(word, b"false") {
+        return TookFlag::Flag(false, s.end);
+    }
+    TookFlag::NoFlag(Reason::Malformed)
+}
+
+// Why nothing was taken.
+pub fn reason_of(t: TookNumber) -> Reason
+    ensures { λ r. ⌜ r ≡ reasonIn t ⌝ }
+{
+    match t {
+        TookNumber::Number(_, _) => Reason::Missing,
+        TookNumber::NoNumber(why) => why,
+    }
+}
