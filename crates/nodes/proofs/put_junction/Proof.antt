@@ -1,0 +1,94 @@
+use denote.Ref.{now}
+use mathlib.Core.Path.{_≡_, refl, sym, ap, _∙_}
+use mathlib.Core.List.{List, [], _∷_}
+use Prim.Native.Nat.{ℕ, _+_, _*_}
+use lib.Ieee.{Float}
+use lib.Ieee as Ieee
+use Rattle.tables.specs.Table.{splice}
+use Rattle.tables.specs.Layout.{nodesAt, nodeSize, nodeNumbersAt, nodeNumbersSize, demandsAt, demandSize, demandNumbersAt}
+use mathlib.Core.Option.{none}
+use Rattle.fields.specs.Fields.{nameIn, optIn}
+use Rattle.nodes.specs.Storing.{newWords, ownWords}
+use borrow.Author.Needs.{needs}
+use Rattle.nodes.proofs.put_junction.Statement.{statement}
+use Rattle.nodes.proofs.put_junction.Tie as tie
+use Rattle.nodes.proofs.put_junction.Reads as reads
+use Rattle.nodes.proofs.put_junction.Lts as lts
+use Rattle.nodes.proofs.put_demand.Reads as put-demand-reads
+use Rattle.nodes.proofs.put_node.Reads as put-node-reads
+use Rattle.tables.proofs.flag_of.Reads as flag-of-reads
+use Rattle.tables.proofs.paste_numbers.Reads as paste-numbers-reads
+
+-- src/lib.rt:322:9
+flag-of-requires : tie.Need-flag-of-requires
+flag-of-requires c κs = search needs
+
+-- src/lib.rt:323:5
+put-node-requires : tie.Need-put-node-requires
+put-node-requires c κs = search needs
+
+-- src/lib.rt:324:5
+put-demand-requires : tie.Need-put-demand-requires
+put-demand-requires c κs = search needs
+
+-- src/lib.rt:327:32
+mul-paste-numbers : tie.Need-mul-paste-numbers
+mul-paste-numbers c = search needs
+
+-- src/lib.rt:327:9
+add-paste-numbers : tie.Need-add-paste-numbers
+add-paste-numbers c = search needs
+
+-- src/lib.rt:328:9
+slice-aggregate-paste-numbers : tie.Need-slice-aggregate-paste-numbers
+slice-aggregate-paste-numbers c = search needs
+
+-- src/lib.rt:325:5
+paste-numbers-requires : tie.Need-paste-numbers-requires
+paste-numbers-requires c κs = search needs
+
+-- src/lib.rt:330:36
+add-paste-numbers-2 : tie.Need-add-paste-numbers-2
+add-paste-numbers-2 c = search needs
+
+-- src/lib.rt:330:64
+slice-aggregate-paste-numbers-2 : tie.Need-slice-aggregate-paste-numbers-2
+slice-aggregate-paste-numbers-2 c = search needs
+
+-- src/lib.rt:330:5
+paste-numbers-requires-2 : tie.Need-paste-numbers-requires-2
+paste-numbers-requires-2 c κs = search needs
+
+-- src/lib.rt:308:1
+same-length : tie.Need-same-length
+same-length c = search needs
+
+-- src/lib.rt:308:1
+same-length-2 : tie.Need-same-length-2
+same-length-2 c = search needs
+
+-- src/lib.rt:308:1
+returns : tie.Need-returns
+unfolding Ieee.ofBits
+returns c = (
+  c .before .before .before .before .before .before .before .before .before .before .before .before .put-demand .ensures ∙ ap (λ (l : List ℕ). splice l (demandsAt + c .before .before .before .before .before .before .before .before .before .before .before .before .before .before .before .before .before .before .before .before .before .before .before .args .d * demandSize) (ownWords (c .before .before .before .before .before .before .before .before .before .before .before .before .before .before .before .before .before .before .before .before .before .before .before .args .n) (optIn (now (c .before .before .before .before .before .before .before .before .before .before .before .before .before .before .before .before .before .before .before .before .before .before .before .args .text)) (c .before .before .before .before .before .before .before .before .before .before .before .before .before .before .before .before .before .before .before .before .before .before .before .args .j .pattern)))) (c .before .before .before .before .before .before .before .before .before .before .before .before .before .before .before .before .put-node .ensures ∙ ap (λ (z : ℕ). splice (now (c .before .before .before .before .before .before .before .before .before .before .before .before .before .before .before .before .before .before .before .before .before .before .before .args .words)) (nodesAt + c .before .before .before .before .before .before .before .before .before .before .before .before .before .before .before .before .before .before .before .before .before .before .before .args .n * nodeSize) (newWords (nameIn (now (c .before .before .before .before .before .before .before .before .before .before .before .before .before .before .before .before .before .before .before .before .before .before .before .args .text)) (c .before .before .before .before .before .before .before .before .before .before .before .before .before .before .before .before .before .before .before .before .before .before .before .args .j .id)) 1 none z)) (c .before .before .before .before .before .before .before .before .before .before .before .before .before .before .before .before .before .before .flag-of .ensures)),
+  c .before .before .paste-numbers2 .ensures ∙ ap (λ (l : List Float). splice l (demandNumbersAt + c .before .before .before .before .before .before .before .before .before .before .before .before .before .before .before .before .before .before .before .before .before .before .before .args .d) (c .before .before .before .before .before .before .before .before .before .before .before .before .before .before .before .before .before .before .before .before .before .before .before .args .j .demand ∷ [])) (c .before .before .before .before .before .before .before .paste-numbers .ensures),
+)
+
+pub put-junction-spec : {M : Type 1} → statement M
+put-junction-spec =
+    tie.close
+    (tie.spec
+    flag-of-requires
+    put-node-requires
+    put-demand-requires
+    mul-paste-numbers
+    add-paste-numbers
+    slice-aggregate-paste-numbers
+    paste-numbers-requires
+    add-paste-numbers-2
+    slice-aggregate-paste-numbers-2
+    paste-numbers-requires-2
+    same-length
+    same-length-2
+    returns)

@@ -1,0 +1,614 @@
+// Reads a line of JUNCTIONS, RESERVOIRS, TANKS, EMITTERS or COORDINATES, and stores what it says. A reader takes the fields in order; then the record is looked up and stored.
+ghost use mathlib.Core.Path.{_≡_};
+ghost use mathlib.Core.Bool.{Bool};
+ghost use mathlib.Core.List.{List, [], _∷_};
+ghost use Prim.Native.Nat.{ℕ, _+_, _*_, _≤_, _<_};
+ghost use lib.ListN.{length, take};
+ghost use Rattle.fields.specs.Fields.{fieldsAt, nameIn, part, Fits, optIn, MayFit};
+ghost use Rattle.scope.specs.Records.{Network, Node, NodeKind, lookup, nodeIds};
+ghost use Rattle.scope.specs.Values.{Read, onRead};
+ghost use Rattle.scope.specs.Nodes.{junctionOf, reservoirOf, tankOf, levelsOf, curveIn, overflowIn, junctionNode, tankNode, junctionDemand, addJunction, addNode, setEmitter, setPlace, junctionStep, reservoirStep, tankStep, emitterStep, coordinatesStep};
+ghost use Rattle.scope.specs.Tables.{nameWords, nodeWords, nodeNumbers, demandWords, demandNumbers, recordWords, roomNumbers};
+ghost use Rattle.tables.specs.Table.{splice};
+ghost use Rattle.tables.specs.Layout.{nodesAt, nodeSize, nodeNumbersAt, nodeNumbersSize, demandsAt, demandSize, demandNumbersAt};
+ghost use Rattle.tables.specs.Holding.{Words, Holds, Sound, After};
+ghost use Rattle.nodes.specs.Lines.{junctionIn, JunctionAs, reservoirIn, tankIn, NodeAs, CurveAs, emitterOf, emitterIn, EmitterAs, placeOf, placeIn, PlaceAs};
+ghost use Rattle.nodes.specs.Storing.{newNode, newWords, ownWords, KindAs};
+use fields::Field;
+use fields::Span;
+use scope::Counts;
+use scope::Found;
+use scope::Reason;
+use scope::Tank;
+use tables::Kept;
+use takers::TookFlag;
+use takers::TookNumber;
+
+// ---- what the lines say
+
+pub struct JunctionLine {
+    pub id: Span,
+    pub elevation: f64,
+    pub demand: f64,
+    pub pattern: Field,
+    pub disabled: bool,
+}
+
+pub enum JunctionRead {
+    Junction(JunctionLine),
+    NoJunction(Reason),
+}
+
+pub struct ReservoirLine {
+    pub id: Span,
+    pub elevation: f64,
+    pub pattern: Field,
+}
+
+pub struct TankLine {
+    pub id: Span,
+    pub tank: Tank,
+}
+
+// What a line of RESERVOIRS or TANKS says.
+pub enum NodeRead {
+    Reservoir(ReservoirLine),
+    Basin(TankLine),
+    NoNode(Reason),
+}
+
+pub struct EmitterLine {
+    pub id: Span,
+    pub coefficient: f64,
+}
+
+pub enum EmitterRead {
+    Emitter(EmitterLine),
+    NoEmitter(Reason),
+}
+
+pub struct PlaceLine {
+    pub id: Span,
+    pub x: f64,
+    pub y: f64,
+}
+
+pub enum PlaceRead {
+    Place(PlaceLine),
+    NoPlace(Reason),
+}
+
+// ---- reading them
+
+// Id, elevation, demand, pattern, disabled. A missing elevation is read from the text 0.
+fn read_junction(l: &[u8], at: usize) -> JunctionRead
+    ensures { λ r. ⌜ JunctionAs (now (l .entry)) (junctionOf (fieldsAt (now (l .entry)) at)) r ⌝ }
+{
+    let f = fields::next_field(l, at);
+    let Field::Taken(id) = f else {
+        return JunctionRead::NoJunction(Reason::Missing);
+    };
+    let height = takers::take_number_or(l, id.end, b"0");
+    let TookNumber::Number(elevation, at2) = height else {
+        return JunctionRead::NoJunction(takers::reason_of(height));
+    };
+    let amount = takers::take_swallowed(l, at2, 0.0);
+    let TookNumber::Number(demand, at3) = amount else {
+        return JunctionRead::NoJunction(takers::reason_of(amount));
+    };
+    let pattern = fields::next_field(l, at3);
+    let at4 = fields::past_field(l, at3);
+    let off = takers::take_flag(l, at4);
+    match off {
+        TookFlag::Flag(disabled, _) => JunctionRead::Junction(JunctionLine {
+            id,
+            elevation,
+            demand,
+            pattern,
+            disabled,
+        }),
+        TookFlag::NoFlag(why) => JunctionRead::NoJunction(why),
+    }
+}
+
+// Id, elevation, optional pattern.
+fn read_reservoir(l: &[u8], at: usize) -> NodeRead
+    ensures { λ r. ⌜ NodeAs (now (l .entry)) (reservoirOf (fieldsAt (now (l .entry)) at)) r ⌝ }
+{
+    let f = fields::next_field(l, at);
+    let Field::Taken(id) = f else {
+        return NodeRead::NoNode(Reason::Missing);
+    };
+    let height = takers::take_number(l, id.end);
+    let TookNumber::Number(elevation, at2) = height else {
+        return NodeRead::NoNode(takers::reason_of(height));
+    };
+    let pattern = fields::next_field(l, at2);
+    NodeRead::Reservoir(ReservoirLine {
+        id,
+        elevation,
+        pattern,
+    })
+}
+
+// A tank's curve: `*` is none.
+fn take_curve(l: &[u8], at: usize) -> Field
+    ensures { λ r. ⌜ CurveAs (now (l .entry)) (curveIn (fieldsAt (now (l .entry)) at)) r ⌝ }
+{
+    let f = fields::next_field(l, at);
+    let Field::Taken(s) = f else {
+        return Field::Nothing;
+    };
+    if fields::equal(fields::letters_of(l, s), b"*") {
+        return Field::Nothing;
+    }
+    Field::Taken(s)
+}
+
+// Whether a tank may overflow: YES in any case.
+fn take_overflow(l: &[u8], at: usize) -> bool
+    ensures { λ r. ⌜ r ≡ overflowIn (fieldsAt (now (l .entry)) at) ⌝ }
+{
+    let f = fields::next_field(l, at);
+    let Field::Taken(s) = f else {
+        return false;
+    };
+    fields::spells(fields::letters_of(l, s), b"YES")
+}
+
+// A tank's fields after its elevation.
+fn read_levels(l: &[u8], at: usize, id: Span, elevation: f64) -> NodeRead
+    ensures { λ r. ⌜ (Fits (now (l .entry)) id → NodeAs (now (l .entry)) (levelsOf (nameIn (now (l .entry)) id) elevation (fieldsAt (now (l .entry)) at)) r) ⌝ }
+{
+    let first = takers::take_number(l, at);
+    let TookNumber::Number(initial, at2) = first else {
+        return NodeRead::NoNode(takers::reason_of(first));
+    };
+    let second = takers::take_number(l, at2);
+    let TookNumber::Number(minimum, at3) = second else {
+        return NodeRead::NoNode(takers::reason_of(second));
+    };
+    let third = takers::take_number(l, at3);
+    let TookNumber::Number(maximum, at4) = third else {
+        return NodeRead::NoNode(takers::reason_of(third));
+    };
+    let fourth = takers::take_number(l, at4);
+    let TookNumber::Number(diameter, at5) = fourth else {
+        return NodeRead::NoNode(takers::reason_of(fourth));
+    };
+    let fifth = takers::take_number_or(l, at5, b"0");
+    let TookNumber::Number(volume, at6) = fifth else {
+        return NodeRead::NoNode(takers::reason_of(fifth));
+    };
+    let curve = take_curve(l, at6);
+    let at7 = fields::past_field(l, at6);
+    let overflow = take_overflow(l, at7);
+    let tank = Tank {
+        elevation,
+        initial,
+        minimum,
+        maximum,
+        diameter,
+        volume,
+        curve,
+        overflow,
+    };
+    NodeRead::Basin(TankLine { id, tank })
+}
+
+// Id, elevation, then a tank's levels; id and elevation alone make a reservoir.
+fn read_tank(l: &[u8], at: usize) -> NodeRead
+    ensures { λ r. ⌜ NodeAs (now (l .entry)) (tankOf (fieldsAt (now (l .entry)) at)) r ⌝ }
+{
+    let f = fields::next_field(l, at);
+    let Field::Taken(id) = f else {
+        return NodeRead::NoNode(Reason::Missing);
+    };
+    let height = takers::take_number(l, id.end);
+    let TookNumber::Number(elevation, at2) = height else {
+        return NodeRead::NoNode(takers::reason_of(height));
+    };
+    let more = fields::next_field(l, at2);
+    match more {
+        Field::Taken(_) => read_levels(l, at2, id, elevation),
+        Field::Nothing => NodeRead::Reservoir(ReservoirLine {
+            id,
+            elevation,
+            pattern: more,
+        }),
+    }
+}
+
+// A junction and its coefficient.
+fn read_emitter(l: &[u8], at: usize) -> EmitterRead
+    ensures { λ r. ⌜ EmitterAs (now (l .entry)) (emitterOf (fieldsAt (now (l .entry)) at)) r ⌝ }
+{
+    let f = fields::next_field(l, at);
+    let Field::Taken(id) = f else {
+        return EmitterRead::NoEmitter(Reason::Missing);
+    };
+    let first = takers::take_number(l, id.end);
+    match first {
+        TookNumber::Number(coefficient, _) => EmitterRead::Emitter(EmitterLine { id, coefficient }),
+        TookNumber::NoNumber(why) => EmitterRead::NoEmitter(why),
+    }
+}
+
+// A node, x and y.
+fn read_coordinates(l: &[u8], at: usize) -> PlaceRead
+    ensures { λ r. ⌜ PlaceAs (now (l .entry)) (placeOf (fieldsAt (now (l .entry)) at)) r ⌝ }
+{
+    let f = fields::next_field(l, at);
+    let Field::Taken(id) = f else {
+        return PlaceRead::NoPlace(Reason::Missing);
+    };
+    let first = takers::take_number(l, id.end);
+    let TookNumber::Number(x, at2) = first else {
+        return PlaceRead::NoPlace(takers::reason_of(first));
+    };
+    let second = takers::take_number(l, at2);
+    match second {
+        TookNumber::Number(y, _) => PlaceRead::Place(PlaceLine { id, x, y }),
+        TookNumber::NoNumber(why) => PlaceRead::NoPlace(why),
+    }
+}
+
+// ---- storing them
+
+const NODE_ROOM: usize = 256;
+
+const DEMAND_ROOM: usize = 512;
+
+// Where the node of that name stands.
+fn node_named(text: &[u8], words: &[u64], nodes: usize, name: Span) -> Found
+    requires { ⌜ ((m : Network) × Words (now text) m (now words) × (nodes ≡ length (m .nodes))) ⌝ }
+    ensures { λ r. ⌜ ((m : Network) → Words (now (text .entry)) m (now (words .entry)) → nodes ≡ length (m .nodes) → r ≡ lookup (nodeIds m) (part (name .at) (name .end) (now (text .entry)))) ⌝ }
+{
+    tables::find_node(text, words, nodes, fields::letters_of(text, name))
+}
+
+// The words of node `i`, which has no place yet: a reservoir has a pattern's name, a tank a curve's; `last` is what its kind keeps in the last word.
+fn put_node(text: &[u8], i: usize, id: Span, kind: u64, name: Field, last: u64, words: &mut [u64])
+    requires { ⌜ (i < 256) × (length (now words) ≡ recordWords) ⌝ }
+    ensures { λ _. ⌜ now (words .exit) ≡ splice (now (words .entry)) (nodesAt + i * nodeSize) (newWords (nameIn (now (text .entry)) id) kind (optIn (now (text .entry)) name) last) ⌝ }
+{
+    let who = tables::id_words(text, id);
+    let which = tables::name_words(text, name);
+    tables::paste_words(
+        words,
+        tables::NODES + i * tables::NODE_WORDS,
+        &[who[0], who[1], who[2], kind, which[0], which[1], last, 0],
+    );
+}
+
+// The words of demand `d`: node `n` has it from its own line.
+fn put_demand(text: &[u8], d: usize, n: usize, pattern: Field, words: &mut [u64])
+    requires { ⌜ (d < 512) × (length (now words) ≡ recordWords) ⌝ }
+    ensures { λ _. ⌜ now (words .exit) ≡ splice (now (words .entry)) (demandsAt + d * demandSize) (ownWords n (optIn (now (text .entry)) pattern)) ⌝ }
+{
+    let which = tables::name_words(text, pattern);
+    tables::paste_words(
+        words,
+        tables::DEMANDS + d * tables::DEMAND_WORDS,
+        &[n as u64, 1, which[0], which[1], 0],
+    );
+}
+
+// A junction as node `n`, with its own demand as demand `d`.
+fn put_junction(
+    text: &[u8],
+    j: JunctionLine,
+    n: usize,
+    d: usize,
+    words: &mut [u64],
+    numbers: &mut [f64],
+)
+    requires { ⌜ (n < 256) × (d < 512) × (length (now words) ≡ recordWords) × (length (now numbers) ≡ roomNumbers) ⌝ }
+    ensures { λ _. ⌜ (now (words .exit) ≡ splice (splice (now (words .entry)) (nodesAt + n * nodeSize) (nodeWords (junctionNode (junctionIn (now (text .entry)) j)))) (demandsAt + d * demandSize) (demandWords (junctionDemand n (junctionIn (now (text .entry)) j))))
+        × (now (numbers .exit) ≡ splice (splice (now (numbers .entry)) (nodeNumbersAt + n * nodeNumbersSize) (nodeNumbers (junctionNode (junctionIn (now (text .entry)) j)))) (demandNumbersAt + d) (demandNumbers (junctionDemand n (junctionIn (now (text .entry)) j)))) ⌝ }
+{
+    let id = j.id;
+    let pattern = j.pattern;
+    let disabled = tables::flag_of(j.disabled);
+    put_node(text, n, id, 1, Field::Nothing, disabled, words);
+    put_demand(text, d, n, pattern, words);
+    tables::paste_numbers(
+        numbers,
+        tables::NODE_NUMBERS + n * tables::NUMBERS_OF_NODE,
+        &[j.elevation, 0.0, 0.0, 0.0, 0.0, 0.0, 0.0, 0.0],
+    );
+    tables::paste_numbers(numbers, tables::DEMAND_NUMBERS + d, &[j.demand]);
+}
+
+fn store_junction(
+    text: &[u8],
+    j: JunctionLine,
+    s: Counts,
+    words: &mut [u64],
+    numbers: &mut [f64],
+) -> Kept
+    requires { ⌜ Sound (now text) s (now words) (now numbers) ⌝ }
+    ensures { λ r. ⌜ (Fits (now (text .entry)) (j .id) → MayFit (now (text .entry)) (j .pattern) → (m : Network) → Holds (now (text .entry)) m s (now (words .entry)) (now (numbers .entry))
+        → After (now (text .entry)) (addJunction (junctionIn (now (text .entry)) j) m) r (now (words .entry)) (now (numbers .entry)) (now (words .exit)) (now (numbers .exit))) ⌝ }
+{
+    let n = s.nodes;
+    let d = s.demands;
+    let found = node_named(text, words, n, j.id);
+    if let Found::At(_) = found {
+        return Kept::Refused(Reason::Used);
+    }
+    if n < NODE_ROOM {
+        if d < DEMAND_ROOM {
+            put_junction(text, j, n, d, words, numbers);
+            let mut t = s;
+            t.nodes = n + 1;
+            t.demands = d + 1;
+            return Kept::Stored(t);
+        }
+    }
+    Kept::Refused(Reason::Full)
+}
+
+// A reservoir or a tank: what its kind keeps stands in the words and the numbers that are given.
+fn store_node(
+    text: &[u8],
+    id: Span,
+    kind: u64,
+    name: Field,
+    last: u64,
+    amounts: &[f64],
+    s: Counts,
+    words: &mut [u64],
+    numbers: &mut [f64],
+) -> Kept
+    requires { ⌜ Sound (now text) s (now words) (now numbers) × (length (now amounts) ≡ nodeNumbersSize) ⌝ }
+    ensures { λ r. ⌜ (Fits (now (text .entry)) id → (k : NodeKind) → KindAs (now (text .entry)) k kind name last (now (amounts .entry)) → (m : Network) → Holds (now (text .entry)) m s (now (words .entry)) (now (numbers .entry))
+        → After (now (text .entry)) (addNode (newNode (nameIn (now (text .entry)) id) k) m) r (now (words .entry)) (now (numbers .entry)) (now (words .exit)) (now (numbers .exit))) ⌝ }
+{
+    let n = s.nodes;
+    let found = node_named(text, words, n, id);
+    if let Found::At(_) = found {
+        return Kept::Refused(Reason::Used);
+    }
+    if n < NODE_ROOM {
+        put_node(text, n, id, kind, name, last, words);
+        tables::paste_numbers(
+            numbers,
+            tables::NODE_NUMBERS + n * tables::NUMBERS_OF_NODE,
+            amounts,
+        );
+        let mut t = s;
+        t.nodes = n + 1;
+        return Kept::Stored(t);
+    }
+    Kept::Refused(Reason::Full)
+}
+
+fn store_reservoir(
+    text: &[u8],
+    r: ReservoirLine,
+    s: Counts,
+    words: &mut [u64],
+    numbers: &mut [f64],
+) -> Kept
+    requires { ⌜ Sound (now text) s (now words) (now numbers) ⌝ }
+    ensures { λ k. ⌜ (Fits (now (text .entry)) (r .id) → MayFit (now (text .entry)) (r .pattern) → (m : Network) → Holds (now (text .entry)) m s (now (words .entry)) (now (numbers .entry))
+        → After (now (text .entry)) (addNode (reservoirIn (now (text .entry)) r) m) k (now (words .entry)) (now (numbers .entry)) (now (words .exit)) (now (numbers .exit))) ⌝ }
+{
+    let id = r.id;
+    let pattern = r.pattern;
+    store_node(
+        text,
+        id,
+        2,
+        pattern,
+        0,
+        &[r.elevation, 0.0, 0.0, 0.0, 0.0, 0.0, 0.0, 0.0],
+        s,
+        words,
+        numbers,
+    )
+}
+
+fn store_tank(
+    text: &[u8],
+    id: Span,
+    tank: Tank,
+    s: Counts,
+    words: &mut [u64],
+    numbers: &mut [f64],
+) -> Kept
+    requires { ⌜ Sound (now text) s (now words) (now numbers) ⌝ }
+    ensures { λ r. ⌜ (Fits (now (text .entry)) id → (m : Network) → Holds (now (text .entry)) m s (now (words .entry)) (now (numbers .entry))
+        → After (now (text .entry)) (addNode (tankNode (nameIn (now (text .entry)) id) (tankIn (now (text .entry)) tank)) m) r (now (words .entry)) (now (numbers .entry)) (now (words .exit)) (now (numbers .exit))) ⌝ }
+{
+    let curve = tank.curve;
+    let overflow = tables::flag_of(tank.overflow);
+    store_node(
+        text,
+        id,
+        3,
+        curve,
+        overflow,
+        &[
+            tank.elevation,
+            tank.initial,
+            tank.minimum,
+            tank.maximum,
+            tank.diameter,
+            tank.volume,
+            0.0,
+            0.0,
+        ],
+        s,
+        words,
+        numbers,
+    )
+}
+
+// What a line of RESERVOIRS or TANKS says, stored.
+fn store_read(
+    text: &[u8],
+    read: NodeRead,
+    s: Counts,
+    words: &mut [u64],
+    numbers: &mut [f64],
+) -> Kept
+    requires { ⌜ Sound (now text) s (now words) (now numbers) ⌝ }
+    ensures { λ r. ⌜ ((o : Read Node) → NodeAs (now (text .entry)) o read → (m : Network) → Holds (now (text .entry)) m s (now (words .entry)) (now (numbers .entry))
+        → After (now (text .entry)) (onRead o (λ n. addNode n m)) r (now (words .entry)) (now (numbers .entry)) (now (words .exit)) (now (numbers .exit))) ⌝ }
+{
+    match read {
+        NodeRead::Reservoir(r) => store_reservoir(text, r, s, words, numbers),
+        NodeRead::Basin(t) => store_tank(text, t.id, t.tank, s, words, numbers),
+        NodeRead::NoNode(why) => Kept::Refused(why),
+    }
+}
+
+// The coefficient takes the emitter's place in the junction's numbers.
+fn store_emitter(
+    text: &[u8],
+    e: EmitterLine,
+    s: Counts,
+    words: &mut [u64],
+    numbers: &mut [f64],
+) -> Kept
+    requires { ⌜ Sound (now text) s (now words) (now numbers) ⌝ }
+    ensures { λ r. ⌜ ((m : Network) → Holds (now (text .entry)) m s (now (words .entry)) (now (numbers .entry))
+        → After (now (text .entry)) (setEmitter (nameIn (now (text .entry)) (e .id)) (e .coefficient) m) r (now (words .entry)) (now (numbers .entry)) (now (words .exit)) (now (numbers .exit))) ⌝ }
+{
+    let found = node_named(text, words, s.nodes, e.id);
+    let Found::At(i) = found else {
+        return Kept::Refused(Reason::NotFound);
+    };
+    if tables::is_junction(words, i) {
+        tables::paste_numbers(
+            numbers,
+            tables::NODE_NUMBERS + i * tables::NUMBERS_OF_NODE + 1,
+            &[e.coefficient],
+        );
+        return Kept::Stored(s);
+    }
+    Kept::Refused(Reason::WrongKind)
+}
+
+// The place is the last word and the last two numbers of a node.
+fn store_coordinates(
+    text: &[u8],
+    p: PlaceLine,
+    s: Counts,
+    words: &mut [u64],
+    numbers: &mut [f64],
+) -> Kept
+    requires { ⌜ Sound (now text) s (now words) (now numbers) ⌝ }
+    ensures { λ r. ⌜ ((m : Network) → Holds (now (text .entry)) m s (now (words .entry)) (now (numbers .entry))
+        → After (now (text .entry)) (setPlace (nameIn (now (text .entry)) (p .id)) (placeIn (now (text .entry)) p .at) m) r (now (words .entry)) (now (numbers .entry)) (now (words .exit)) (now (numbers .exit))) ⌝ }
+{
+    let found = node_named(text, words, s.nodes, p.id);
+    let Found::At(i) = found else {
+        return Kept::Refused(Reason::NotFound);
+    };
+    tables::paste_words(words, tables::NODES + i * tables::NODE_WORDS + 7, &[1]);
+    tables::paste_numbers(
+        numbers,
+        tables::NODE_NUMBERS + i * tables::NUMBERS_OF_NODE + 6,
+        &[p.x, p.y],
+    );
+    Kept::Stored(s)
+}
+
+// ---- the lines of the five sections
+
+// The line of JUNCTIONS from `at` to `end`.
+pub fn junction_line(
+    text: &[u8],
+    at: usize,
+    end: usize,
+    s: Counts,
+    words: &mut [u64],
+    numbers: &mut [f64],
+) -> Kept
+    requires { ⌜ Sound (now text) s (now words) (now numbers) × (end ≤ length (now text)) ⌝ }
+    ensures { λ r. ⌜ ((m : Network) → Holds (now (text .entry)) m s (now (words .entry)) (now (numbers .entry))
+        → After (now (text .entry)) (junctionStep (fieldsAt (take end (now (text .entry))) at) m) r (now (words .entry)) (now (numbers .entry)) (now (words .exit)) (now (numbers .exit))) ⌝ }
+{
+    let read = read_junction(&text[..end], at);
+    match read {
+        JunctionRead::Junction(j) => store_junction(text, j, s, words, numbers),
+        JunctionRead::NoJunction(why) => Kept::Refused(why),
+    }
+}
+
+// The line of RESERVOIRS from `at` to `end`.
+pub fn reservoir_line(
+    text: &[u8],
+    at: usize,
+    end: usize,
+    s: Counts,
+    words: &mut [u64],
+    numbers: &mut [f64],
+) -> Kept
+    requires { ⌜ Sound (now text) s (now words) (now numbers) × (end ≤ length (now text)) ⌝ }
+    ensures { λ r. ⌜ ((m : Network) → Holds (now (text .entry)) m s (now (words .entry)) (now (numbers .entry))
+        → After (now (text .entry)) (reservoirStep (fieldsAt (take end (now (text .entry))) at) m) r (now (words .entry)) (now (numbers .entry)) (now (words .exit)) (now (numbers .exit))) ⌝ }
+{
+    let read = read_reservoir(&text[..end], at);
+    store_read(text, read, s, words, numbers)
+}
+
+// The line of TANKS from `at` to `end`.
+pub fn tank_line(
+    text: &[u8],
+    at: usize,
+    end: usize,
+    s: Counts,
+    words: &mut [u64],
+    numbers: &mut [f64],
+) -> Kept
+    requires { ⌜ Sound (now text) s (now words) (now numbers) × (end ≤ length (now text)) ⌝ }
+    ensures { λ r. ⌜ ((m : Network) → Holds (now (text .entry)) m s (now (words .entry)) (now (numbers .entry))
+        → After (now (text .entry)) (tankStep (fieldsAt (take end (now (text .entry))) at) m) r (now (words .entry)) (now (numbers .entry)) (now (words .exit)) (now (numbers .exit))) ⌝ }
+{
+    let read = read_tank(&text[..end], at);
+    store_read(text, read, s, words, numbers)
+}
+
+// The line of EMITTERS from `at` to `end`.
+pub fn emitter_line(
+    text: &[u8],
+    at: usize,
+    end: usize,
+    s: Counts,
+    words: &mut [u64],
+    numbers: &mut [f64],
+) -> Kept
+    requires { ⌜ Sound (now text) s (now words) (now numbers) × (end ≤ length (now text)) ⌝ }
+    ensures { λ r. ⌜ ((m : Network) → Holds (now (text .entry)) m s (now (words .entry)) (now (numbers .entry))
+        → After (now (text .entry)) (emitterStep (fieldsAt (take end (now (text .entry))) at) m) r (now (words .entry)) (now (numbers .entry)) (now (words .exit)) (now (numbers .exit))) ⌝ }
+{
+    let read = read_emitter(&text[..end], at);
+    match read {
+        EmitterRead::Emitter(e) => store_emitter(text, e, s, words, numbers),
+        EmitterRead::NoEmitter(why) => Kept::Refused(why),
+    }
+}
+
+// The line of COORDINATES from `at` to `end`.
+pub fn coordinates_line(
+    text: &[u8],
+    at: usize,
+    end: usize,
+    s: Counts,
+    words: &mut [u64],
+    numbers: &mut [f64],
+) -> Kept
+    requires { ⌜ Sound (now text) s (now words) (now numbers) × (end ≤ length (now text)) ⌝ }
+    ensures { λ r. ⌜ ((m : Network) → Holds (now (text .entry)) m s (now (words .entry)) (now (numbers .entry))
+        → After (now (text .entry)) (coordinatesStep (fieldsAt (take end (now (text .entry))) at) m) r (now (words .entry)) (now (numbers .entry)) (now (words .exit)) (now (numbers .exit))) ⌝ }
+{
+    let read = read_coordinates(&text[..end], at);
+    match read {
+        PlaceRead::Place(p) => store_coordinates(text, p, s, words, numbers),
+        PlaceRead::NoPlace(why) => Kept::Refused(why),
+    }
+}

@@ -1,0 +1,536 @@
+// Reads a line of CURVES, PATTERNS or DEMANDS, and stores what it says; and works out the patterns' places at the end of a text.
+ghost use mathlib.Core.Path.{_≡_};
+ghost use mathlib.Core.List.{List, [], _∷_};
+ghost use mathlib.Core.Option.{Option};
+ghost use Prim.Native.Nat.{ℕ, _+_, _*_, _≤_, _<_};
+ghost use lib.ListN.{length, take, getD, replicate};
+ghost use lib.Ieee.{Float};
+ghost use Rattle.fields.specs.Fields.{Name, fieldsAt, nameIn, Fits};
+ghost use Rattle.scope.specs.Sections.{roomPoints, roomMultipliers, roomDemands};
+ghost use Rattle.scope.specs.Records.{Network};
+ghost use Rattle.scope.specs.Values.{good};
+ghost use Rattle.scope.specs.Series.{multipliersOf, falls, lastX, addPoint, curveStep, addPattern, patternStep, demandAt, ownFrom, addDemand, setDemand, demandStep, indexOf, resolved};
+ghost use Rattle.scope.specs.Tables.{recordWords, roomNumbers, nameWords, indexNo, demandWords};
+ghost use Rattle.takers.specs.Taking.{optIn, MayFit};
+ghost use Rattle.tables.specs.Table.{splice};
+ghost use Rattle.tables.specs.Layout.{pointsAt, multipliersAt, demandsAt, demandSize, pointNumbersAt, pointNumbersSize, multiplierNumbersAt, demandNumbersAt};
+ghost use Rattle.tables.specs.Holding.{SitsOr, Words, Numbers, Holds, Sound, After};
+ghost use Rattle.series.specs.Lines.{pointOf, PointAs, CountedAs, patternOf, PatternAs, demandOf, DemandAs};
+ghost use Rattle.series.specs.Storing.{noDemand, isOwn, demandResolved, nodeResolved, demandsResolved, nodesResolved};
+use fields::Field;
+use fields::Span;
+use scope::Counts;
+use scope::Found;
+use scope::Reason;
+use tables::Kept;
+use takers::TookNumber;
+
+// ---- what the lines say
+
+pub struct PointLine {
+    pub id: Span,
+    pub x: f64,
+    pub y: f64,
+}
+
+pub enum PointRead {
+    Point(PointLine),
+    NoPoint(Reason),
+}
+
+// A pattern's id, where its multipliers start, and how many there are.
+pub struct PatternLine {
+    pub id: Span,
+    pub at: usize,
+    pub count: usize,
+}
+
+pub enum PatternRead {
+    Pattern(PatternLine),
+    NoPattern(Reason),
+}
+
+pub enum Counted {
+    Count(usize),
+    NoCount(Reason),
+}
+
+pub struct DemandLine {
+    pub id: Span,
+    pub base: f64,
+    pub pattern: Field,
+}
+
+pub enum DemandRead {
+    Demand(DemandLine),
+    NoDemand(Reason),
+}
+
+// ---- reading them
+
+// Id, x, y.
+fn read_curve(l: &[u8], at: usize) -> PointRead
+    ensures { λ r. ⌜ PointAs (now (l .entry)) (pointOf (fieldsAt (now (l .entry)) at)) r ⌝ }
+{
+    let f = fields::next_field(l, at);
+    let Field::Taken(id) = f else {
+        return PointRead::NoPoint(Reason::Missing);
+    };
+    let first = takers::take_number(l, id.end);
+    let TookNumber::Number(x, at2) = first else {
+        return PointRead::NoPoint(takers::reason_of(first));
+    };
+    let second = takers::take_number(l, at2);
+    match second {
+        TookNumber::Number(y, _) => PointRead::Point(PointLine { id, x, y }),
+        TookNumber::NoNumber(why) => PointRead::NoPoint(why),
+    }
+}
+
+// How many numbers there are from `at` on, where all fields are numbers.
+fn count_multipliers(l: &[u8], at: usize) -> Counted
+    ensures { λ r. ⌜ CountedAs (multipliersOf (fieldsAt (now (l .entry)) at)) r ⌝ }
+{
+    let mut n: usize = 0;
+    let mut p = at;
+    loop {
+        let f = fields::next_field(l, p);
+        let Field::Taken(s) = f else {
+            return Counted::Count(n);
+        };
+        let t = takers::as_number(
+            decimals::read_number(fields::letters_of(l, s)),
+            s.end,
+        );
+        match t {
+            TookNumber::Number(_, next) => {
+                n += 1;
+                p = next;
+            }
+            TookNumber::NoNumber(why) => {
+                return Counted::NoCount(why);
+            }
+        }
+    }
+}
+
+// Id, and any count of multipliers.
+fn read_pattern(l: &[u8], at: usize) -> PatternRead
+    ensures { λ r. ⌜ PatternAs (now (l .entry)) (patternOf (fieldsAt (now (l .entry)) at)) r ⌝ }
+{
+    let f = fields::next_field(l, at);
+    let Field::Taken(id) = f else {
+        return PatternRead::NoPattern(Reason::Missing);
+    };
+    let from = id.end;
+    let all = count_multipliers(l, from);
+    match all {
+        Counted::Count(count) => PatternRead::Pattern(PatternLine {
+            id,
+            at: from,
+            count,
+        }),
+        Counted::NoCount(why) => PatternRead::NoPattern(why),
+    }
+}
+
+// A junction, its demand, optional pattern.
+fn read_demand(l: &[u8], at: usize) -> DemandRead
+    ensures { λ r. ⌜ DemandAs (now (l .entry)) (demandOf (fieldsAt (now (l .entry)) at)) r ⌝ }
+{
+    let f = fields::next_field(l, at);
+    let Field::Taken(id) = f else {
+        return DemandRead::NoDemand(Reason::Missing);
+    };
+    let first = takers::take_number(l, id.end);
+    let TookNumber::Number(base, at2) = first else {
+        return DemandRead::NoDemand(takers::reason_of(first));
+    };
+    let pattern = fields::next_field(l, at2);
+    DemandRead::Demand(DemandLine {
+        id,
+        base,
+        pattern,
+    })
+}
+
+// ---- CURVES
+
+// Whether x is less than the last x of a curve: its last point is looked for from the end on.
+fn falls_behind(words: &[u64], numbers: &[f64], points: usize, curve: usize, x: f64) -> bool
+    requires { ⌜ (points ≤ roomPoints) × (length (now words) ≡ recordWords) × (length (now numbers) ≡ roomNumbers) ⌝ }
+    ensures { λ r. ⌜ ((text : List ℕ) (m : Network) → Words text m (now (words .entry)) → Numbers m (now (numbers .entry)) → points ≡ length (m .points) → r ≡ falls x (lastX curve (m .points))) ⌝ }
+{
+    let mut k = points;
+    while 0 < k {
+        let j = k - 1;
+        if words[tables::POINTS + j] == curve as u64 {
+            return x < numbers[tables::POINT_NUMBERS + j * tables::NUMBERS_OF_POINT];
+        }
+        k = j;
+    }
+    false
+}
+
+// Point number k.
+fn put_point(words: &mut [u64], numbers: &mut [f64], k: usize, curve: usize, x: f64, y: f64)
+    requires { ⌜ (k < roomPoints) × (length (now words) ≡ recordWords) × (length (now numbers) ≡ roomNumbers) ⌝ }
+    ensures { λ _. ⌜ (now (words .exit) ≡ splice (now (words .entry)) (pointsAt + k) (curve ∷ [])) × (now (numbers .exit) ≡ splice (now (numbers .entry)) (pointNumbersAt + k * pointNumbersSize) (x ∷ y ∷ [])) ⌝ }
+{
+    tables::paste_words(words, tables::POINTS + k, &[curve as u64]);
+    tables::paste_numbers(
+        numbers,
+        tables::POINT_NUMBERS + k * tables::NUMBERS_OF_POINT,
+        &[x, y],
+    );
+}
+
+fn store_point(text: &[u8], p: PointLine, s: Counts, words: &mut [u64], numbers: &mut [f64]) -> Kept
+    requires { ⌜ Sound (now text) s (now words) (now numbers) × Fits (now text) (p .id) ⌝ }
+    ensures { λ r. ⌜ ((m : Network) → Holds (now (text .entry)) m s (now (words .entry)) (now (numbers .entry))
+        → After (now (text .entry)) (addPoint (nameIn (now (text .entry)) (p .id)) (p .x) (p .y) m) r (now (words .entry)) (now (numbers .entry)) (now (words .exit)) (now (numbers .exit))) ⌝ }
+{
+    let id = p.id;
+    let n = s.curves;
+    let k = s.points;
+    let found = tables::find_curve(text, words, n, fields::letters_of(text, id));
+    let mut t = s;
+    t.points = k + 1;
+    match found {
+        Found::At(i) => {
+            if falls_behind(words, numbers, k, i, p.x) {
+                return Kept::Refused(Reason::Falling);
+            }
+            if k < 1024 {
+                put_point(words, numbers, k, i, p.x, p.y);
+                return Kept::Stored(t);
+            }
+            Kept::Refused(Reason::Full)
+        }
+        Found::Nowhere => {
+            if n < 64 {
+                if k < 1024 {
+                    let name = tables::id_words(text, id);
+                    tables::paste_words(words, tables::CURVES + n * tables::ID_WORDS, &name);
+                    put_point(words, numbers, k, n, p.x, p.y);
+                    t.curves = n + 1;
+                    return Kept::Stored(t);
+                }
+            }
+            Kept::Refused(Reason::Full)
+        }
+    }
+}
+
+// The line of CURVES from `at` to `end`.
+pub fn curve_line(
+    text: &[u8],
+    at: usize,
+    end: usize,
+    s: Counts,
+    words: &mut [u64],
+    numbers: &mut [f64],
+) -> Kept
+    requires { ⌜ Sound (now text) s (now words) (now numbers) × (end ≤ length (now text)) ⌝ }
+    ensures { λ r. ⌜ ((m : Network) → Holds (now (text .entry)) m s (now (words .entry)) (now (numbers .entry))
+        → After (now (text .entry)) (curveStep (fieldsAt (take end (now (text .entry))) at) m) r (now (words .entry)) (now (numbers .entry)) (now (words .exit)) (now (numbers .exit))) ⌝ }
+{
+    let read = read_curve(&text[..end], at);
+    match read {
+        PointRead::Point(p) => store_point(text, p, s, words, numbers),
+        PointRead::NoPoint(why) => Kept::Refused(why),
+    }
+}
+
+// ---- PATTERNS
+
+// The numbers from `at` on as multipliers of a pattern, from multiplier number `first` on.
+fn put_multipliers(
+    l: &[u8],
+    at: usize,
+    first: usize,
+    pattern: usize,
+    words: &mut [u64],
+    numbers: &mut [f64],
+)
+    requires { ⌜ ((xs : List Float) × (multipliersOf (fieldsAt (now l) at) ≡ good xs) × (first + length xs ≤ roomMultipliers) × (length (now words) ≡ recordWords) × (length (now numbers) ≡ roomNumbers)) ⌝ }
+    ensures { λ _. ⌜ ((xs : List Float) → multipliersOf (fieldsAt (now (l .entry)) at) ≡ good xs
+        → (now (words .exit) ≡ splice (now (words .entry)) (multipliersAt + first) (replicate (length xs) pattern)) × (now (numbers .exit) ≡ splice (now (numbers .entry)) (multiplierNumbersAt + first) xs)) ⌝ }
+{
+    let mut i = first;
+    let mut p = at;
+    loop {
+        let t = takers::take_number(l, p);
+        let TookNumber::Number(x, next) = t else {
+            return;
+        };
+        words[tables::MULTIPLIERS + i] = pattern as u64;
+        numbers[tables::MULTIPLIER_NUMBERS + i] = x;
+        i += 1;
+        p = next;
+    }
+}
+
+fn store_pattern(
+    text: &[u8],
+    line: &[u8],
+    p: PatternLine,
+    s: Counts,
+    words: &mut [u64],
+    numbers: &mut [f64],
+) -> Kept
+    requires { ⌜ Sound (now text) s (now words) (now numbers) × Fits (now text) (p .id) × ((xs : List Float) × (multipliersOf (fieldsAt (now line) (p .at)) ≡ good xs) × (length xs ≡ p .count)) ⌝ }
+    ensures { λ r. ⌜ ((m : Network) (xs : List Float) → Holds (now (text .entry)) m s (now (words .entry)) (now (numbers .entry)) → multipliersOf (fieldsAt (now (line .entry)) (p .at)) ≡ good xs
+        → After (now (text .entry)) (addPattern (nameIn (now (text .entry)) (p .id)) xs m) r (now (words .entry)) (now (numbers .entry)) (now (words .exit)) (now (numbers .exit))) ⌝ }
+{
+    let id = p.id;
+    let at = p.at;
+    let count = p.count;
+    let n = s.patterns;
+    let k = s.multipliers;
+    let found = tables::find_pattern(text, words, n, fields::letters_of(text, id));
+    if 2048 < k + count {
+        return Kept::Refused(Reason::Full);
+    }
+    let mut t = s;
+    t.multipliers = k + count;
+    match found {
+        Found::At(i) => {
+            put_multipliers(line, at, k, i, words, numbers);
+            Kept::Stored(t)
+        }
+        Found::Nowhere => {
+            if n < 64 {
+                let name = tables::id_words(text, id);
+                tables::paste_words(words, tables::PATTERNS + n * tables::ID_WORDS, &name);
+                put_multipliers(line, at, k, n, words, numbers);
+                t.patterns = n + 1;
+                return Kept::Stored(t);
+            }
+            Kept::Refused(Reason::Full)
+        }
+    }
+}
+
+// The line of PATTERNS from `at` to `end`.
+pub fn pattern_line(
+    text: &[u8],
+    at: usize,
+    end: usize,
+    s: Counts,
+    words: &mut [u64],
+    numbers: &mut [f64],
+) -> Kept
+    requires { ⌜ Sound (now text) s (now words) (now numbers) × (end ≤ length (now text)) ⌝ }
+    ensures { λ r. ⌜ ((m : Network) → Holds (now (text .entry)) m s (now (words .entry)) (now (numbers .entry))
+        → After (now (text .entry)) (patternStep (fieldsAt (take end (now (text .entry))) at) m) r (now (words .entry)) (now (numbers .entry)) (now (words .exit)) (now (numbers .exit))) ⌝ }
+{
+    let line = &text[..end];
+    let read = read_pattern(line, at);
+    match read {
+        PatternRead::Pattern(p) => store_pattern(text, line, p, s, words, numbers),
+        PatternRead::NoPattern(why) => Kept::Refused(why),
+    }
+}
+
+// ---- DEMANDS
+
+// Whether demand number k is that of the junction's own line.
+fn is_own(words: &[u64], k: usize, node: usize) -> bool
+    requires { ⌜ (k < roomDemands) × (length (now words) ≡ recordWords) ⌝ }
+    ensures { λ r. ⌜ ((text : List ℕ) (m : Network) → Words text m (now (words .entry)) → k < length (m .demands) → r ≡ isOwn (getD (m .demands) k noDemand) node) ⌝ }
+{
+    let row = tables::DEMANDS + k * tables::DEMAND_WORDS;
+    if words[row] == node as u64 {
+        return words[row + 1] == 1;
+    }
+    false
+}
+
+// The place of the demand of the junction's own line, if it stands still.
+fn own_demand(words: &[u64], demands: usize, node: usize) -> Found
+    requires { ⌜ (demands ≤ roomDemands) × (length (now words) ≡ recordWords) ⌝ }
+    ensures { λ r. ⌜ ((text : List ℕ) (m : Network) → Words text m (now (words .entry)) → demands ≡ length (m .demands) → r ≡ ownFrom 0 node (m .demands)) ⌝ }
+{
+    let mut k = 0;
+    while k < demands {
+        if is_own(words, k, node) {
+            return Found::At(k);
+        }
+        k += 1;
+    }
+    Found::Nowhere
+}
+
+// Demand number k.
+fn put_demand(
+    text: &[u8],
+    d: DemandLine,
+    node: usize,
+    k: usize,
+    words: &mut [u64],
+    numbers: &mut [f64],
+)
+    requires { ⌜ (k < roomDemands) × (length (now words) ≡ recordWords) × (length (now numbers) ≡ roomNumbers) ⌝ }
+    ensures { λ _. ⌜ (now (words .exit) ≡ splice (now (words .entry)) (demandsAt + k * demandSize) (demandWords (demandAt node (d .base) (optIn (now (text .entry)) (d .pattern))))) × (now (numbers .exit) ≡ splice (now (numbers .entry)) (demandNumbersAt + k) (d .base ∷ [])) ⌝ }
+{
+    let pattern = d.pattern;
+    let p = tables::name_words(text, pattern);
+    tables::paste_words(
+        words,
+        tables::DEMANDS + k * tables::DEMAND_WORDS,
+        &[node as u64, 0, p[0], p[1], 0],
+    );
+    tables::paste_numbers(numbers, tables::DEMAND_NUMBERS + k, &[d.base]);
+}
+
+// The junction's own demand gives its room to its first line.
+fn add_demand(
+    text: &[u8],
+    d: DemandLine,
+    node: usize,
+    s: Counts,
+    words: &mut [u64],
+    numbers: &mut [f64],
+) -> Kept
+    requires { ⌜ Sound (now text) s (now words) (now numbers) × MayFit (now text) (d .pattern) ⌝ }
+    ensures { λ r. ⌜ ((m : Network) → Holds (now (text .entry)) m s (now (words .entry)) (now (numbers .entry))
+        → After (now (text .entry)) (addDemand node (d .base) (optIn (now (text .entry)) (d .pattern)) m) r (now (words .entry)) (now (numbers .entry)) (now (words .exit)) (now (numbers .exit))) ⌝ }
+{
+    let n = s.demands;
+    let own = own_demand(words, n, node);
+    match own {
+        Found::At(k) => {
+            put_demand(text, d, node, k, words, numbers);
+            Kept::Stored(s)
+        }
+        Found::Nowhere => {
+            if n < 512 {
+                put_demand(text, d, node, n, words, numbers);
+                let mut t = s;
+                t.demands = n + 1;
+                return Kept::Stored(t);
+            }
+            Kept::Refused(Reason::Full)
+        }
+    }
+}
+
+fn store_demand(
+    text: &[u8],
+    d: DemandLine,
+    s: Counts,
+    words: &mut [u64],
+    numbers: &mut [f64],
+) -> Kept
+    requires { ⌜ Sound (now text) s (now words) (now numbers) × Fits (now text) (d .id) × MayFit (now text) (d .pattern) ⌝ }
+    ensures { λ r. ⌜ ((m : Network) → Holds (now (text .entry)) m s (now (words .entry)) (now (numbers .entry))
+        → After (now (text .entry)) (setDemand (nameIn (now (text .entry)) (d .id)) (d .base) (optIn (now (text .entry)) (d .pattern)) m) r (now (words .entry)) (now (numbers .entry)) (now (words .exit)) (now (numbers .exit))) ⌝ }
+{
+    let found = tables::find_node(
+        text,
+        words,
+        s.nodes,
+        fields::letters_of(text, d.id),
+    );
+    let Found::At(i) = found else {
+        return Kept::Refused(Reason::NotFound);
+    };
+    if tables::is_junction(words, i) {
+        return add_demand(text, d, i, s, words, numbers);
+    }
+    Kept::Refused(Reason::WrongKind)
+}
+
+// The line of DEMANDS from `at` to `end`.
+pub fn demand_line(
+    text: &[u8],
+    at: usize,
+    end: usize,
+    s: Counts,
+    words: &mut [u64],
+    numbers: &mut [f64],
+) -> Kept
+    requires { ⌜ Sound (now text) s (now words) (now numbers) × (end ≤ length (now text)) ⌝ }
+    ensures { λ r. ⌜ ((m : Network) → Holds (now (text .entry)) m s (now (words .entry)) (now (numbers .entry))
+        → After (now (text .entry)) (demandStep (fieldsAt (take end (now (text .entry))) at) m) r (now (words .entry)) (now (numbers .entry)) (now (words .exit)) (now (numbers .exit))) ⌝ }
+{
+    let read = read_demand(&text[..end], at);
+    match read {
+        DemandRead::Demand(d) => store_demand(text, d, s, words, numbers),
+        DemandRead::NoDemand(why) => Kept::Refused(why),
+    }
+}
+
+// ---- the patterns' places, at the end of a text
+
+// The place plus one of the pattern that a record names by these words; 0 where it names none, or there is none.
+fn pattern_index(text: &[u8], words: &[u64], patterns: usize, at: u64, long: u64) -> u64
+    requires { ⌜ ((m : Network) × Words (now text) m (now words) × (patterns ≡ length (m .patterns))) ⌝ }
+    ensures { λ r. ⌜ ((m : Network) (o : Option Name) → Words (now (text .entry)) m (now (words .entry)) → patterns ≡ length (m .patterns) → SitsOr (now (text .entry)) o → nameWords o ≡ at ∷ long ∷ [] → r ≡ indexNo (indexOf (m .patterns) o)) ⌝ }
+{
+    if long == 0 {
+        return 0;
+    }
+    let name = fields::cut(text, at as usize, long as usize);
+    tables::index_number(tables::find_pattern(text, words, patterns, name))
+}
+
+fn resolve_demand(text: &[u8], s: Counts, words: &mut [u64], k: usize)
+    requires { ⌜ ((f : List Float) × Sound (now text) s (now words) f × (k < s .demands)) ⌝ }
+    ensures { λ _. ⌜ ((m : Network) (f : List Float) → Holds (now (text .entry)) m s (now (words .entry)) f
+        → Holds (now (text .entry)) (demandResolved k m) s (now (words .exit)) f) ⌝ }
+{
+    let row = tables::DEMANDS + k * tables::DEMAND_WORDS;
+    let index = pattern_index(text, words, s.patterns, words[row + 2], words[row + 3]);
+    words[row + 4] = index;
+}
+
+fn resolve_node(text: &[u8], s: Counts, words: &mut [u64], k: usize)
+    requires { ⌜ ((f : List Float) × Sound (now text) s (now words) f × (k < s .nodes)) ⌝ }
+    ensures { λ _. ⌜ ((m : Network) (f : List Float) → Holds (now (text .entry)) m s (now (words .entry)) f
+        → Holds (now (text .entry)) (nodeResolved k m) s (now (words .exit)) f) ⌝ }
+{
+    let row = tables::NODES + k * tables::NODE_WORDS;
+    if words[row + 3] != 2 {
+        return;
+    }
+    let index = pattern_index(text, words, s.patterns, words[row + 4], words[row + 5]);
+    words[row + 6] = index;
+}
+
+fn resolve_demands(text: &[u8], s: Counts, words: &mut [u64])
+    requires { ⌜ ((f : List Float) × Sound (now text) s (now words) f) ⌝ }
+    ensures { λ _. ⌜ ((m : Network) (f : List Float) → Holds (now (text .entry)) m s (now (words .entry)) f
+        → Holds (now (text .entry)) (demandsResolved m) s (now (words .exit)) f) ⌝ }
+{
+    let n = s.demands;
+    let mut k = 0;
+    while k < n {
+        resolve_demand(text, s, words, k);
+        k += 1;
+    }
+}
+
+fn resolve_nodes(text: &[u8], s: Counts, words: &mut [u64])
+    requires { ⌜ ((f : List Float) × Sound (now text) s (now words) f) ⌝ }
+    ensures { λ _. ⌜ ((m : Network) (f : List Float) → Holds (now (text .entry)) m s (now (words .entry)) f
+        → Holds (now (text .entry)) (nodesResolved m) s (now (words .exit)) f) ⌝ }
+{
+    let n = s.nodes;
+    let mut k = 0;
+    while k < n {
+        resolve_node(text, s, words, k);
+        k += 1;
+    }
+}
+
+// The place of each pattern that a demand or a reservoir names. The numbers stay as they are, whatever they hold.
+pub fn resolve_pattern_indices(text: &[u8], s: Counts, words: &mut [u64])
+    requires { ⌜ ((f : List Float) × Sound (now text) s (now words) f) ⌝ }
+    ensures { λ _. ⌜ ((m : Network) (f : List Float) → Holds (now (text .entry)) m s (now (words .entry)) f
+        → Holds (now (text .entry)) (resolved m) s (now (words .exit)) f) ⌝ }
+{
+    resolve_nodes(text, s, words);
+    resolve_demands(text, s, words);
+}
