@@ -98,10 +98,7 @@ fn count_multipliers(l: &[u8], at: usize) -> Counted
         let Field::Taken(s) = f else {
             return Counted::Count(n);
         };
-        let t = takers::as_number(
-            decimals::read_number(fields::letters_of(l, s)),
-            s.end,
-        );
+        let t = takers::as_number(decimals::read_number(fields::letters_of(l, s)), s.end);
         match t {
             TookNumber::Number(_, next) => {
                 n += 1;
@@ -147,11 +144,7 @@ fn read_demand(l: &[u8], at: usize) -> DemandRead
         return DemandRead::NoDemand(takers::reason_of(first));
     };
     let pattern = fields::next_field(l, at2);
-    DemandRead::Demand(DemandLine {
-        id,
-        base,
-        pattern,
-    })
+    DemandRead::Demand(DemandLine { id, base, pattern })
 }
 
 // ---- CURVES
@@ -427,12 +420,7 @@ fn store_demand(
     ensures { λ r. ⌜ ((m : Network) → Holds (now (text .entry)) m s (now (words .entry)) (now (numbers .entry))
         → After (now (text .entry)) (setDemand (nameIn (now (text .entry)) (d .id)) (d .base) (optIn (now (text .entry)) (d .pattern)) m) r (now (words .entry)) (now (numbers .entry)) (now (words .exit)) (now (numbers .exit))) ⌝ }
 {
-    let found = tables::find_node(
-        text,
-        words,
-        s.nodes,
-        fields::letters_of(text, d.id),
-    );
+    let found = tables::find_node(text, words, s.nodes, fields::letters_of(text, d.id));
     let Found::At(i) = found else {
         return Kept::Refused(Reason::NotFound);
     };

@@ -70,7 +70,7 @@ same-length c = search needs
 returns : tie.Need-returns
 returns c =
     λ m f h. demand-set h (c .before .before .before .before .args .k) (c .before .before .before .before .pre .2) _ (omega (arith, c .before .before .before .before .pre .2, bound-demands (c .before .before .before .before .pre .1 .holds), sound-words (c .before .before .before .before .pre .1)))
-        (c .pattern-index .ensures m (getD (m .demands) (c .before .before .before .before .args .k) noDemand .pattern) (h .words) (count-patterns h) (demand-sits h (c .before .before .before .before .args .k) (c .before .before .before .before .pre .2)) (demand-name h (c .before .before .before .before .args .k) (c .before .before .before .before .pre .2)))
+    (c .pattern-index .ensures m (getD (m .demands) (c .before .before .before .before .args .k) noDemand .pattern) (h .words) (count-patterns h) (demand-sits h (c .before .before .before .before .args .k) (c .before .before .before .before .pre .2)) (demand-name h (c .before .before .before .before .args .k) (c .before .before .before .before .pre .2)))
 
 pub resolve-demand-spec : {M : Type 1} → statement M
 resolve-demand-spec =

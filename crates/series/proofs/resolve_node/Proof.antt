@@ -86,7 +86,7 @@ same-length c = search needs
 returns-2 : tie.Need-returns-2
 returns-2 c =
     λ m f h. node-set h (c .before .before .before .before .before .before .args .k) (c .before .before .before .before .before .before .pre .2) (c .before .before .if1 .left) _ (omega (arith, c .before .before .before .before .before .before .pre .2, bound-nodes (c .before .before .before .before .before .before .pre .1 .holds), sound-words (c .before .before .before .before .before .before .pre .1)))
-        (c .pattern-index .ensures m (patternIn (getD (m .nodes) (c .before .before .before .before .before .before .args .k) noNode .kind)) (h .words) (count-patterns h) (node-sits h (c .before .before .before .before .before .before .args .k) (c .before .before .before .before .before .before .pre .2) (c .before .before .if1 .left)) (node-name h (c .before .before .before .before .before .before .args .k) (c .before .before .before .before .before .before .pre .2) (c .before .before .if1 .left)))
+    (c .pattern-index .ensures m (patternIn (getD (m .nodes) (c .before .before .before .before .before .before .args .k) noNode .kind)) (h .words) (count-patterns h) (node-sits h (c .before .before .before .before .before .before .args .k) (c .before .before .before .before .before .before .pre .2) (c .before .before .if1 .left)) (node-name h (c .before .before .before .before .before .before .args .k) (c .before .before .before .before .before .before .pre .2) (c .before .before .if1 .left)))
 
 pub resolve-node-spec : {M : Type 1} → statement M
 resolve-node-spec =

@@ -49,7 +49,7 @@ same-length-3 c = search needs
 returns-2 : tie.Need-returns-2
 returns-2 c =
     λ m h. let e = look (c .before .before .before .before .before .before .before .before .before .before .before .before .before) m h ∙ c .before .before .before .before .before .before .before .before .before .before .before .found .given .1 in
-        on-junction h (c .before .before .before .before .before .before .before .before .before .before .before .before .before .before .before .before .before .before .before .args .d .base) (c .before .before .before .before .before .before .before .before .before .before .before .before .before .before .before .before .before .before .before .args .d .pattern) (c .before .before .before .before .before .before .before .before .before .before .before .before .before .before .before .before .before .before .before .args .d .id) _ e _ _ _ (sym (c .before .before .before .before .before .before .before .if1 .taken) ∙ c .before .before .before .before .before .before .before .before .is-junction .ensures (now (c .before .before .before .before .before .before .before .before .before .before .before .before .before .before .before .before .before .before .before .args .text)) m (h .words) (node-below h (c .before .before .before .before .before .before .before .before .before .before .before .before .before .before .before .before .before .before .before .args .d .base) (c .before .before .before .before .before .before .before .before .before .before .before .before .before .before .before .before .before .before .before .args .d .pattern) (c .before .before .before .before .before .before .before .before .before .before .before .before .before .before .before .before .before .before .before .args .d .id) _ e)) (c .before .before .before .before .add-demand .ensures m h)
+    on-junction h (c .before .before .before .before .before .before .before .before .before .before .before .before .before .before .before .before .before .before .before .args .d .base) (c .before .before .before .before .before .before .before .before .before .before .before .before .before .before .before .before .before .before .before .args .d .pattern) (c .before .before .before .before .before .before .before .before .before .before .before .before .before .before .before .before .before .before .before .args .d .id) _ e _ _ _ (sym (c .before .before .before .before .before .before .before .if1 .taken) ∙ c .before .before .before .before .before .before .before .before .is-junction .ensures (now (c .before .before .before .before .before .before .before .before .before .before .before .before .before .before .before .before .before .before .before .args .text)) m (h .words) (node-below h (c .before .before .before .before .before .before .before .before .before .before .before .before .before .before .before .before .before .before .before .args .d .base) (c .before .before .before .before .before .before .before .before .before .before .before .before .before .before .before .before .before .before .before .args .d .pattern) (c .before .before .before .before .before .before .before .before .before .before .before .before .before .before .before .before .before .before .before .args .d .id) _ e)) (c .before .before .before .before .add-demand .ensures m h)
 
 same-length-4 : tie.Need-same-length-4
 same-length-4 c = search needs
@@ -57,7 +57,7 @@ same-length-4 c = search needs
 returns-3 : tie.Need-returns-3
 returns-3 c =
     λ m h. let e = look (c .before .before .before .before .before .before) m h ∙ c .before .before .before .before .found .given .1 in
-        no-junction h (c .before .before .before .before .before .before .before .before .before .before .before .before .args .d .base) (c .before .before .before .before .before .before .before .before .before .before .before .before .args .d .pattern) (c .before .before .before .before .before .before .before .before .before .before .before .before .args .d .id) _ e (sym (c .if1 .left) ∙ c .before .is-junction .ensures (now (c .before .before .before .before .before .before .before .before .before .before .before .before .args .text)) m (h .words) (node-below h (c .before .before .before .before .before .before .before .before .before .before .before .before .args .d .base) (c .before .before .before .before .before .before .before .before .before .before .before .before .args .d .pattern) (c .before .before .before .before .before .before .before .before .before .before .before .before .args .d .id) _ e))
+    no-junction h (c .before .before .before .before .before .before .before .before .before .before .before .before .args .d .base) (c .before .before .before .before .before .before .before .before .before .before .before .before .args .d .pattern) (c .before .before .before .before .before .before .before .before .before .before .before .before .args .d .id) _ e (sym (c .if1 .left) ∙ c .before .is-junction .ensures (now (c .before .before .before .before .before .before .before .before .before .before .before .before .args .text)) m (h .words) (node-below h (c .before .before .before .before .before .before .before .before .before .before .before .before .args .d .base) (c .before .before .before .before .before .before .before .before .before .before .before .before .args .d .pattern) (c .before .before .before .before .before .before .before .before .before .before .before .before .args .d .id) _ e))
 
 pub store-demand-spec : {M : Type 1} → statement M
 store-demand-spec =

@@ -88,8 +88,8 @@ same-length-3 c = search needs
 returns-2 : tie.Need-returns-2
 returns-2 c =
     λ m xs h e. rw (← counted (c .before .before .before .before .before .before .before .before .before .before .before .before .before .before .before .before .before .before .before .before .before .before .before .before .before) xs e)
-        (starts h (c .before .before .before .before .before .before .before .before .before .before .before .before .before .before .before .before .before .before .before .before .before .before .before .before .before .args .p .id) xs (omega (arith, counted (c .before .before .before .before .before .before .before .before .before .before .before .before .before .before .before .before .before .before .before .before .before .before .before .before .before) xs e, c .before .before .before .before .before .before .before .before .before .before .before .before .before .before .before .before .if1 .left)) _ _ _ (look (c .before .before .before .before .before .before .before .before .before .before .before .before .before .before .before .before .before) m h ∙ c .before .before .before .before .before .before .before .before .before .before .before .before .before .before .enum-told .given .1)
-        (c .before .before .before .before .before .before .before .before .before .before .before .before .before .before .before .before .before .before .before .before .before .before .before .before .before .pre .1) (c .before .before .before .before .before .before .before .before .before .before .before .before .before .if2 .taken) (c .before .before .before .before .before .before .before .before .before .paste-words .ensures ∙ ap (λ (l : List ℕ). splice (now (c .before .before .before .before .before .before .before .before .before .before .before .before .before .before .before .before .before .before .before .before .before .before .before .before .before .args .words)) (patternsAt + c .before .before .before .before .before .before .before .before .before .before .before .before .before .before .before .before .before .before .before .before .before .before .before .before .before .args .s .patterns * idSize) l) (c .before .before .before .before .before .before .before .before .before .before .before .before .id-words .ensures)) (c .before .before .before .before .put-multipliers2 .ensures xs e .0) (c .before .before .before .before .put-multipliers2 .ensures xs e .1))
+    (starts h (c .before .before .before .before .before .before .before .before .before .before .before .before .before .before .before .before .before .before .before .before .before .before .before .before .before .args .p .id) xs (omega (arith, counted (c .before .before .before .before .before .before .before .before .before .before .before .before .before .before .before .before .before .before .before .before .before .before .before .before .before) xs e, c .before .before .before .before .before .before .before .before .before .before .before .before .before .before .before .before .if1 .left)) _ _ _ (look (c .before .before .before .before .before .before .before .before .before .before .before .before .before .before .before .before .before) m h ∙ c .before .before .before .before .before .before .before .before .before .before .before .before .before .before .enum-told .given .1)
+    (c .before .before .before .before .before .before .before .before .before .before .before .before .before .before .before .before .before .before .before .before .before .before .before .before .before .pre .1) (c .before .before .before .before .before .before .before .before .before .before .before .before .before .if2 .taken) (c .before .before .before .before .before .before .before .before .before .paste-words .ensures ∙ ap (λ (l : List ℕ). splice (now (c .before .before .before .before .before .before .before .before .before .before .before .before .before .before .before .before .before .before .before .before .before .before .before .before .before .args .words)) (patternsAt + c .before .before .before .before .before .before .before .before .before .before .before .before .before .before .before .before .before .before .before .before .before .before .before .before .before .args .s .patterns * idSize) l) (c .before .before .before .before .before .before .before .before .before .before .before .before .id-words .ensures)) (c .before .before .before .before .put-multipliers2 .ensures xs e .0) (c .before .before .before .before .put-multipliers2 .ensures xs e .1))
 
 same-length-4 : tie.Need-same-length-4
 same-length-4 c = search needs
@@ -100,8 +100,8 @@ same-length-5 c = search needs
 returns-3 : tie.Need-returns-3
 returns-3 c =
     λ m xs h e. rw (← counted (c .before .before .before .before .before .before .before .before .before .before .before .before .before .before .before .before .before .before .before) xs e)
-        (goes-on h (c .before .before .before .before .before .before .before .before .before .before .before .before .before .before .before .before .before .before .before .args .p .id) xs (omega (arith, counted (c .before .before .before .before .before .before .before .before .before .before .before .before .before .before .before .before .before .before .before) xs e, c .before .before .before .before .before .before .before .before .before .before .if1 .left)) _ _ _ (look (c .before .before .before .before .before .before .before .before .before .before .before) m h ∙ c .before .before .before .before .before .before .before .before .found .given .1)
-        (c .before .before .before .before .put-multipliers .ensures xs e .0) (c .before .before .before .before .put-multipliers .ensures xs e .1))
+    (goes-on h (c .before .before .before .before .before .before .before .before .before .before .before .before .before .before .before .before .before .before .before .args .p .id) xs (omega (arith, counted (c .before .before .before .before .before .before .before .before .before .before .before .before .before .before .before .before .before .before .before) xs e, c .before .before .before .before .before .before .before .before .before .before .if1 .left)) _ _ _ (look (c .before .before .before .before .before .before .before .before .before .before .before) m h ∙ c .before .before .before .before .before .before .before .before .found .given .1)
+    (c .before .before .before .before .put-multipliers .ensures xs e .0) (c .before .before .before .before .put-multipliers .ensures xs e .1))
 
 same-length-6 : tie.Need-same-length-6
 same-length-6 c = search needs
