@@ -1,0 +1,110 @@
+-- `clauses::read_comparison` meets its contract. Assumes nothing.
+use mathlib.Core.Path.{_≡_, refl, sym, ap, _∙_, subst}
+use Rattle.scope.specs.Rules.{comparisonOf}
+use borrow.Author.Needs.{needs}
+use Rattle.clauses.proofs.read_comparison.Statement.{statement}
+use Rattle.clauses.proofs.read_comparison.Tie as tie
+
+slice-aggregate-either : tie.Need-slice-aggregate-either
+slice-aggregate-either c = search needs
+
+slice-aggregate-either-2 : tie.Need-slice-aggregate-either-2
+slice-aggregate-either-2 c = search needs
+
+either-requires : tie.Need-either-requires
+either-requires c κs = search needs
+
+returns : tie.Need-returns
+unfolding comparisonOf
+returns c = rw (sym (c .before .either .ensures) ∙ c .if1 .taken)
+
+slice-aggregate-either-3 : tie.Need-slice-aggregate-either-3
+slice-aggregate-either-3 c = search needs
+
+slice-aggregate-either-4 : tie.Need-slice-aggregate-either-4
+slice-aggregate-either-4 c = search needs
+
+either-requires-2 : tie.Need-either-requires-2
+either-requires-2 c κs = search needs
+
+returns-2 : tie.Need-returns-2
+unfolding comparisonOf
+returns-2 c = rw (sym (c .before .before .before .before .before .either .ensures) ∙ c .before .before .before .before .if1 .left, sym (c .before .either2 .ensures) ∙ c .if2 .taken)
+
+slice-aggregate-either-5 : tie.Need-slice-aggregate-either-5
+slice-aggregate-either-5 c = search needs
+
+slice-aggregate-either-6 : tie.Need-slice-aggregate-either-6
+slice-aggregate-either-6 c = search needs
+
+either-requires-3 : tie.Need-either-requires-3
+either-requires-3 c κs = search needs
+
+returns-3 : tie.Need-returns-3
+unfolding comparisonOf
+returns-3 c = rw (sym (c .before .before .before .before .before .before .before .before .before .either .ensures) ∙ c .before .before .before .before .before .before .before .before .if1 .left, sym (c .before .before .before .before .before .either2 .ensures) ∙ c .before .before .before .before .if2 .left, sym (c .before .either3 .ensures) ∙ c .if3 .taken)
+
+slice-aggregate-either-7 : tie.Need-slice-aggregate-either-7
+slice-aggregate-either-7 c = search needs
+
+slice-aggregate-either-8 : tie.Need-slice-aggregate-either-8
+slice-aggregate-either-8 c = search needs
+
+either-requires-4 : tie.Need-either-requires-4
+either-requires-4 c κs = search needs
+
+returns-4 : tie.Need-returns-4
+unfolding comparisonOf
+returns-4 c = rw (sym (c .before .before .before .before .before .before .before .before .before .before .before .before .before .either .ensures) ∙ c .before .before .before .before .before .before .before .before .before .before .before .before .if1 .left, sym (c .before .before .before .before .before .before .before .before .before .either2 .ensures) ∙ c .before .before .before .before .before .before .before .before .if2 .left, sym (c .before .before .before .before .before .either3 .ensures) ∙ c .before .before .before .before .if3 .left, sym (c .before .either4 .ensures) ∙ c .if4 .taken)
+
+slice-aggregate-equal : tie.Need-slice-aggregate-equal
+slice-aggregate-equal c = search needs
+
+equal-requires : tie.Need-equal-requires
+equal-requires c κs = search needs
+
+returns-5 : tie.Need-returns-5
+unfolding comparisonOf
+returns-5 c = rw (sym (c .before .before .before .before .before .before .before .before .before .before .before .before .before .before .before .before .either .ensures) ∙ c .before .before .before .before .before .before .before .before .before .before .before .before .before .before .before .if1 .left, sym (c .before .before .before .before .before .before .before .before .before .before .before .before .either2 .ensures) ∙ c .before .before .before .before .before .before .before .before .before .before .before .if2 .left, sym (c .before .before .before .before .before .before .before .before .either3 .ensures) ∙ c .before .before .before .before .before .before .before .if3 .left, sym (c .before .before .before .before .either4 .ensures) ∙ c .before .before .before .if4 .left, sym (c .before .equal .ensures) ∙ c .if5 .taken)
+
+slice-aggregate-equal-2 : tie.Need-slice-aggregate-equal-2
+slice-aggregate-equal-2 c = search needs
+
+equal-requires-2 : tie.Need-equal-requires-2
+equal-requires-2 c κs = search needs
+
+returns-6 : tie.Need-returns-6
+unfolding comparisonOf
+returns-6 c = rw (sym (c .before .before .before .before .before .before .before .before .before .before .before .before .before .before .before .before .before .before .before .either .ensures) ∙ c .before .before .before .before .before .before .before .before .before .before .before .before .before .before .before .before .before .before .if1 .left, sym (c .before .before .before .before .before .before .before .before .before .before .before .before .before .before .before .either2 .ensures) ∙ c .before .before .before .before .before .before .before .before .before .before .before .before .before .before .if2 .left, sym (c .before .before .before .before .before .before .before .before .before .before .before .either3 .ensures) ∙ c .before .before .before .before .before .before .before .before .before .before .if3 .left, sym (c .before .before .before .before .before .before .before .either4 .ensures) ∙ c .before .before .before .before .before .before .if4 .left, sym (c .before .before .before .before .equal .ensures) ∙ c .before .before .before .if5 .left, sym (c .before .equal2 .ensures) ∙ c .if6 .taken)
+
+returns-7 : tie.Need-returns-7
+unfolding comparisonOf
+returns-7 c = rw (sym (c .before .before .before .before .before .before .before .before .before .before .before .before .before .before .before .before .before .before .before .either .ensures) ∙ c .before .before .before .before .before .before .before .before .before .before .before .before .before .before .before .before .before .before .if1 .left, sym (c .before .before .before .before .before .before .before .before .before .before .before .before .before .before .before .either2 .ensures) ∙ c .before .before .before .before .before .before .before .before .before .before .before .before .before .before .if2 .left, sym (c .before .before .before .before .before .before .before .before .before .before .before .either3 .ensures) ∙ c .before .before .before .before .before .before .before .before .before .before .if3 .left, sym (c .before .before .before .before .before .before .before .either4 .ensures) ∙ c .before .before .before .before .before .before .if4 .left, sym (c .before .before .before .before .equal .ensures) ∙ c .before .before .before .if5 .left, sym (c .before .equal2 .ensures) ∙ c .if6 .left)
+
+pub read-comparison-spec : {M : Type 1} → statement M
+read-comparison-spec =
+    tie.close
+    (tie.spec
+    slice-aggregate-either
+    slice-aggregate-either-2
+    either-requires
+    returns
+    slice-aggregate-either-3
+    slice-aggregate-either-4
+    either-requires-2
+    returns-2
+    slice-aggregate-either-5
+    slice-aggregate-either-6
+    either-requires-3
+    returns-3
+    slice-aggregate-either-7
+    slice-aggregate-either-8
+    either-requires-4
+    returns-4
+    slice-aggregate-equal
+    equal-requires
+    returns-5
+    slice-aggregate-equal-2
+    equal-requires-2
+    returns-6
+    returns-7)

@@ -1,0 +1,524 @@
+// Reads the conditions and the actions of a rule. A line is the caller's text up to the line's end, with the place where its next field is looked for: so every place
+// is a place of the text.
+ghost use mathlib.Core.Path.{_≡_};
+ghost use mathlib.Core.Bool.{_||_};
+ghost use mathlib.Core.List.{[]};
+ghost use Prim.Native.Nat.{ℕ};
+ghost use Rattle.decimals.specs.Numbers.{numberOf};
+ghost use Rattle.fields.specs.Fields.{fieldsAt};
+ghost use Rattle.fields.specs.Words.{same};
+ghost use Rattle.scope.specs.Records.{LinkKind};
+ghost use Rattle.scope.specs.Values.{asNumber, onRead, asTime};
+ghost use Rattle.clock.specs.Times.{timeOf};
+ghost use Rattle.scope.specs.Rules.{systemTarget, nodeTarget, tankTarget, linkTarget, isLinkWord, systemFrom, namedFrom, aimFrom, comparisonOf, isTime, secondsValue, numberValue, measured, valueOf, conditionOf, ofKind, isPipe, isPump, isValve, kindFits, statusValue, deedOf};
+ghost use Rattle.clauses.specs.Clauses.{attributeRead, attributeOf, targetRead, TargetFits, aimIn, comparisonRead, valueRead, conditionRead, ConditionFits, conditionOn, headFrom, headRead, HeadFits, kindRead, deedFrom, ruleWord, MayFit};
+use clock::Time;
+use decimals::Number;
+use fields::Field;
+use fields::Span;
+use scope::Comparison;
+use scope::Condition;
+use scope::LinkAttribute;
+use scope::LinkStatus;
+use scope::NodeAttribute;
+use scope::Operator;
+use scope::Reason;
+use scope::SystemAttribute;
+use scope::TankAttribute;
+use scope::Target;
+use scope::Value;
+
+// Whether the word is one of the two.
+fn either<'a>(w: &'a [u8], a: &'a [u8], b: &'a [u8]) -> bool
+    ensures { λ r. ⌜ r ≡ (same (now (w .entry)) (now (a .entry)) || same (now (w .entry)) (now (b .entry))) ⌝ }
+{
+    if fields::equal(w, a) {
+        return true;
+    }
+    fields::equal(w, b)
+}
+
+// ---- the target of a condition
+
+// The target that an attribute's word makes.
+pub enum AttributeRead {
+    Known(Target),
+    Unknown,
+}
+
+fn system_target(w: &[u8]) -> AttributeRead
+    ensures { λ r. ⌜ attributeRead r ≡ systemTarget (now (w .entry)) ⌝ }
+{
+    if fields::equal(w, b"DEMAND") {
+        return AttributeRead::Known(Target::System(SystemAttribute::Demand));
+    }
+    if fields::equal(w, b"TIME") {
+        return AttributeRead::Known(Target::System(SystemAttribute::Time));
+    }
+    if fields::equal(w, b"CLOCKTIME") {
+        return AttributeRead::Known(Target::System(SystemAttribute::ClockTime));
+    }
+    AttributeRead::Unknown
+}
+
+fn node_target(w: &[u8]) -> AttributeRead
+    ensures { λ r. ⌜ attributeRead r ≡ nodeTarget (now (w .entry)) ⌝ }
+{
+    if fields::equal(w, b"DEMAND") {
+        return AttributeRead::Known(Target::Node(NodeAttribute::Demand));
+    }
+    if fields::equal(w, b"HEAD") {
+        return AttributeRead::Known(Target::Node(NodeAttribute::Head));
+    }
+    if fields::equal(w, b"PRESSURE") {
+        return AttributeRead::Known(Target::Node(NodeAttribute::Pressure));
+    }
+    AttributeRead::Unknown
+}
+
+fn tank_target(w: &[u8]) -> AttributeRead
+    ensures { λ r. ⌜ attributeRead r ≡ tankTarget (now (w .entry)) ⌝ }
+{
+    if fields::equal(w, b"LEVEL") {
+        return AttributeRead::Known(Target::Tank(TankAttribute::Level));
+    }
+    if fields::equal(w, b"FILLTIME") {
+        return AttributeRead::Known(Target::Tank(TankAttribute::FillTime));
+    }
+    if fields::equal(w, b"DRAINTIME") {
+        return AttributeRead::Known(Target::Tank(TankAttribute::DrainTime));
+    }
+    AttributeRead::Unknown
+}
+
+fn link_target(w: &[u8]) -> AttributeRead
+    ensures { λ r. ⌜ attributeRead r ≡ linkTarget (now (w .entry)) ⌝ }
+{
+    if fields::equal(w, b"FLOW") {
+        return AttributeRead::Known(Target::Link(LinkAttribute::Flow));
+    }
+    if fields::equal(w, b"STATUS") {
+        return AttributeRead::Known(Target::Link(LinkAttribute::Status));
+    }
+    if fields::equal(w, b"SETTING") {
+        return AttributeRead::Known(Target::Link(LinkAttribute::Setting));
+    }
+    AttributeRead::Unknown
+}
+
+// The kinds of target that have an id.
+enum Named {
+    Node,
+    Tank,
+    Link,
+}
+
+fn attribute(kind: Named, w: &[u8]) -> AttributeRead
+    ensures { λ r. ⌜ attributeRead r ≡ attributeOf kind (now (w .entry)) ⌝ }
+{
+    match kind {
+        Named::Node => node_target(w),
+        Named::Tank => tank_target(w),
+        Named::Link => link_target(w),
+    }
+}
+
+// A target with its id, the system having none, and where the next field is looked for.
+pub struct Aim {
+    pub target: Target,
+    pub name: Field,
+    pub next: usize,
+}
+
+pub enum TargetRead {
+    Read(Aim),
+    Refused(Reason),
+}
+
+// The attribute after SYSTEM.
+fn system_from(l: &[u8], at: usize) -> TargetRead
+    ensures { λ r. ⌜ targetRead (now (l .entry)) r ≡ systemFrom (fieldsAt (now (l .entry)) at) ⌝ }
+    ensures { λ r. ⌜ TargetFits (now (l .entry)) r ⌝ }
+{
+    let f = fields::next_field(l, at);
+    let Field::Taken(s) = f else {
+        return TargetRead::Refused(Reason::Missing);
+    };
+    let read = system_target(fields::letters_of(l, s));
+    match read {
+        AttributeRead::Known(target) => TargetRead::Read(Aim {
+            target,
+            name: Field::Nothing,
+            next: s.end,
+        }),
+        AttributeRead::Unknown => TargetRead::Refused(Reason::Unknown),
+    }
+}
+
+// The id and the attribute after another word.
+fn named_from(l: &[u8], at: usize, kind: Named) -> TargetRead
+    ensures { λ r. ⌜ targetRead (now (l .entry)) r ≡ namedFrom (attributeOf kind) (fieldsAt (now (l .entry)) at) ⌝ }
+    ensures { λ r. ⌜ TargetFits (now (l .entry)) r ⌝ }
+{
+    let f = fields::next_field(l, at);
+    let Field::Taken(id) = f else {
+        return TargetRead::Refused(Reason::Missing);
+    };
+    let g = fields::next_field(l, id.end);
+    let Field::Taken(s) = g else {
+        return TargetRead::Refused(Reason::Missing);
+    };
+    let read = attribute(kind, fields::letters_of(l, s));
+    match read {
+        AttributeRead::Known(target) => TargetRead::Read(Aim {
+            target,
+            name: Field::Taken(id),
+            next: s.end,
+        }),
+        AttributeRead::Unknown => TargetRead::Refused(Reason::Unknown),
+    }
+}
+
+fn is_link_word(w: &[u8]) -> bool
+    ensures { λ r. ⌜ r ≡ isLinkWord (now (w .entry)) ⌝ }
+{
+    if fields::equal(w, b"LINK") {
+        return true;
+    }
+    if fields::equal(w, b"PIPE") {
+        return true;
+    }
+    if fields::equal(w, b"VALVE") {
+        return true;
+    }
+    fields::equal(w, b"PUMP")
+}
+
+pub fn read_target(l: &[u8], at: usize) -> TargetRead
+    ensures { λ r. ⌜ targetRead (now (l .entry)) r ≡ aimFrom (fieldsAt (now (l .entry)) at) ⌝ }
+    ensures { λ r. ⌜ TargetFits (now (l .entry)) r ⌝ }
+{
+    let f = fields::next_field(l, at);
+    let Field::Taken(s) = f else {
+        return TargetRead::Refused(Reason::Missing);
+    };
+    let w = fields::letters_of(l, s);
+    if fields::equal(w, b"SYSTEM") {
+        return system_from(l, s.end);
+    }
+    if fields::equal(w, b"NODE") {
+        return named_from(l, s.end, Named::Node);
+    }
+    if fields::equal(w, b"TANK") {
+        return named_from(l, s.end, Named::Tank);
+    }
+    if is_link_word(w) {
+        return named_from(l, s.end, Named::Link);
+    }
+    TargetRead::Refused(Reason::Unknown)
+}
+
+// ---- the comparison
+
+pub enum ComparisonRead {
+    Known(Comparison),
+    Unknown,
+}
+
+pub fn read_comparison(w: &[u8]) -> ComparisonRead
+    ensures { λ r. ⌜ comparisonRead r ≡ comparisonOf (now (w .entry)) ⌝ }
+{
+    if either(w, b"IS", b"=") {
+        return ComparisonRead::Known(Comparison::Equal);
+    }
+    if either(w, b"NOT", b"<>") {
+        return ComparisonRead::Known(Comparison::Differs);
+    }
+    if either(w, b"ABOVE", b">") {
+        return ComparisonRead::Known(Comparison::Above);
+    }
+    if either(w, b"BELOW", b"<") {
+        return ComparisonRead::Known(Comparison::Below);
+    }
+    if fields::equal(w, b">=") {
+        return ComparisonRead::Known(Comparison::AtLeast);
+    }
+    if fields::equal(w, b"<=") {
+        return ComparisonRead::Known(Comparison::AtMost);
+    }
+    ComparisonRead::Unknown
+}
+
+// ---- the value
+
+pub enum ValueRead {
+    Read(Value),
+    Refused(Reason),
+}
+
+fn is_time(t: Target) -> bool
+    ensures { λ r. ⌜ r ≡ isTime t ⌝ }
+{
+    match t {
+        Target::System(a) => match a {
+            SystemAttribute::Demand => false,
+            SystemAttribute::Time => true,
+            SystemAttribute::ClockTime => true,
+        },
+        Target::Node(_) => false,
+        Target::Tank(_) => false,
+        Target::Link(_) => false,
+    }
+}
+
+// Up to 2^53 every whole number is a double.
+fn seconds_value(n: u64) -> ValueRead
+    ensures { λ r. ⌜ valueRead r ≡ secondsValue n ⌝ }
+{
+    if n <= 9007199254740992 {
+        return ValueRead::Read(Value::Number(n as f64));
+    }
+    ValueRead::Refused(Reason::Beyond)
+}
+
+fn time_value(time: &[u8], unit: &[u8]) -> ValueRead
+    ensures { λ r. ⌜ valueRead r ≡ onRead (asTime (timeOf (now (time .entry)) (now (unit .entry)))) secondsValue ⌝ }
+{
+    let t = clock::read_time(time, unit);
+    match t {
+        Time::Seconds(n) => seconds_value(n),
+        Time::Malformed => ValueRead::Refused(Reason::Malformed),
+        Time::Beyond => ValueRead::Refused(Reason::Beyond),
+        Time::UnknownUnit => ValueRead::Refused(Reason::Unknown),
+    }
+}
+
+fn number_value(w: &[u8]) -> ValueRead
+    ensures { λ r. ⌜ valueRead r ≡ numberValue (asNumber (numberOf (now (w .entry))) []) ⌝ }
+{
+    let n = decimals::read_number(w);
+    match n {
+        Number::Value(x) => ValueRead::Read(Value::Number(x)),
+        Number::Malformed => ValueRead::Refused(Reason::Malformed),
+        Number::Beyond => ValueRead::Refused(Reason::Beyond),
+    }
+}
+
+// The value of a condition on the target.
+pub fn read_value(target: Target, l: &[u8], at: usize) -> ValueRead
+    ensures { λ r. ⌜ valueRead r ≡ valueOf target (fieldsAt (now (l .entry)) at) ⌝ }
+{
+    let f = fields::next_field(l, at);
+    let Field::Taken(s) = f else {
+        return ValueRead::Refused(Reason::Missing);
+    };
+    let w = fields::letters_of(l, s);
+    if fields::equal(w, b"OPEN") {
+        return ValueRead::Read(Value::Status(LinkStatus::Open));
+    }
+    if fields::equal(w, b"CLOSED") {
+        return ValueRead::Read(Value::Status(LinkStatus::Closed));
+    }
+    if fields::equal(w, b"ACTIVE") {
+        return ValueRead::Read(Value::Status(LinkStatus::Active));
+    }
+    if is_time(target) {
+        return time_value(w, fields::field_or(l, s.end, b""));
+    }
+    number_value(w)
+}
+
+// ---- a condition
+
+pub enum ConditionRead {
+    Read(Condition),
+    Refused(Reason),
+}
+
+// What stands after the target: the comparison and the value.
+fn condition_on(l: &[u8], aim: Aim, operator: Operator) -> ConditionRead
+    ensures { λ r. ⌜ conditionRead (now (l .entry)) r ≡ conditionOn operator (aimIn (now (l .entry)) aim) (fieldsAt (now (l .entry)) (aim .next)) ⌝ }
+    ensures { λ r. ⌜ (MayFit (now (l .entry)) (aim .name) → ConditionFits (now (l .entry)) r) ⌝ }
+{
+    let f = fields::next_field(l, aim.next);
+    let Field::Taken(s) = f else {
+        return ConditionRead::Refused(Reason::Missing);
+    };
+    let word = read_comparison(fields::letters_of(l, s));
+    let ComparisonRead::Known(comparison) = word else {
+        return ConditionRead::Refused(Reason::Unknown);
+    };
+    let target = aim.target;
+    let name = aim.name;
+    let read = read_value(target, l, s.end);
+    match read {
+        ValueRead::Read(value) => ConditionRead::Read(Condition {
+            operator,
+            target,
+            name,
+            comparison,
+            value,
+        }),
+        ValueRead::Refused(why) => ConditionRead::Refused(why),
+    }
+}
+
+// The condition after a line's first word.
+pub fn read_condition(l: &[u8], at: usize, operator: Operator) -> ConditionRead
+    ensures { λ r. ⌜ conditionRead (now (l .entry)) r ≡ conditionOf operator (fieldsAt (now (l .entry)) at) ⌝ }
+    ensures { λ r. ⌜ ConditionFits (now (l .entry)) r ⌝ }
+{
+    let read = read_target(l, at);
+    match read {
+        TargetRead::Read(aim) => condition_on(l, aim, operator),
+        TargetRead::Refused(why) => ConditionRead::Refused(why),
+    }
+}
+
+// ---- an action: what stands before the link is looked up, the kind of the link, and what stands after
+
+pub struct ActionHead {
+    pub kind: Span,
+    pub id: Span,
+}
+
+pub enum HeadRead {
+    Read(ActionHead),
+    Refused(Reason),
+}
+
+// The kind word and the link's id after a line's first word.
+pub fn read_action_head(l: &[u8], at: usize) -> HeadRead
+    ensures { λ r. ⌜ headRead (now (l .entry)) r ≡ headFrom (fieldsAt (now (l .entry)) at) ⌝ }
+    ensures { λ r. ⌜ HeadFits (now (l .entry)) r ⌝ }
+{
+    let f = fields::next_field(l, at);
+    let Field::Taken(kind) = f else {
+        return HeadRead::Refused(Reason::Missing);
+    };
+    let g = fields::next_field(l, kind.end);
+    let Field::Taken(id) = g else {
+        return HeadRead::Refused(Reason::Missing);
+    };
+    HeadRead::Read(ActionHead { kind, id })
+}
+
+pub enum KindRead {
+    Fits,
+    Refused(Reason),
+}
+
+fn of_kind(is: bool) -> KindRead
+    ensures { λ r. ⌜ kindRead r ≡ ofKind is ⌝ }
+{
+    if is {
+        KindRead::Fits
+    } else {
+        KindRead::Refused(Reason::WrongKind)
+    }
+}
+
+// Whether a link, which is a pipe, a pump or a valve, is of the kind that the word names.
+pub fn kind_fits(w: &[u8], pipe: bool, pump: bool, valve: bool) -> KindRead
+    ensures { λ r. ⌜ ((k : LinkKind) → pipe ≡ isPipe k → pump ≡ isPump k → valve ≡ isValve k → kindRead r ≡ kindFits (now (w .entry)) k) ⌝ }
+{
+    if fields::equal(w, b"LINK") {
+        return KindRead::Fits;
+    }
+    if fields::equal(w, b"PIPE") {
+        return of_kind(pipe);
+    }
+    if fields::equal(w, b"VALVE") {
+        return of_kind(valve);
+    }
+    if fields::equal(w, b"PUMP") {
+        return of_kind(pump);
+    }
+    KindRead::Refused(Reason::Unknown)
+}
+
+fn status_value(w: &[u8]) -> ValueRead
+    ensures { λ r. ⌜ valueRead r ≡ statusValue (now (w .entry)) ⌝ }
+{
+    if fields::equal(w, b"OPEN") {
+        return ValueRead::Read(Value::Status(LinkStatus::Open));
+    }
+    if fields::equal(w, b"CLOSED") {
+        return ValueRead::Read(Value::Status(LinkStatus::Closed));
+    }
+    ValueRead::Refused(Reason::Unknown)
+}
+
+fn deed<'a>(what: &'a [u8], value: &'a [u8]) -> ValueRead
+    ensures { λ r. ⌜ ((at : ℕ) → valueRead r ≡ deedOf (now (what .entry)) (record { at = at; letters = now (value .entry) })) ⌝ }
+{
+    if fields::equal(what, b"STATUS") {
+        return status_value(value);
+    }
+    if fields::equal(what, b"SETTING") {
+        return number_value(value);
+    }
+    ValueRead::Refused(Reason::Unknown)
+}
+
+// What stands after the link's id: STATUS or SETTING, IS, and the value.
+pub fn read_deed(l: &[u8], at: usize) -> ValueRead
+    ensures { λ r. ⌜ valueRead r ≡ deedFrom (fieldsAt (now (l .entry)) at) ⌝ }
+{
+    let f = fields::next_field(l, at);
+    let Field::Taken(what) = f else {
+        return ValueRead::Refused(Reason::Missing);
+    };
+    let g = fields::next_field(l, what.end);
+    let Field::Taken(is) = g else {
+        return ValueRead::Refused(Reason::Missing);
+    };
+    if fields::equal(fields::letters_of(l, is), b"IS") {
+        let h = fields::next_field(l, is.end);
+        let Field::Taken(v) = h else {
+            return ValueRead::Refused(Reason::Missing);
+        };
+        return deed(fields::letters_of(l, what), fields::letters_of(l, v));
+    }
+    ValueRead::Refused(Reason::Unknown)
+}
+
+// ---- the first word of a rule's line
+
+pub enum RuleWord {
+    Rule,
+    If,
+    Or,
+    Then,
+    And,
+    Else,
+    Priority,
+    Unknown,
+}
+
+pub fn rule_word(w: &[u8]) -> RuleWord
+    ensures { λ r. ⌜ r ≡ ruleWord (now (w .entry)) ⌝ }
+{
+    if fields::equal(w, b"RULE") {
+        return RuleWord::Rule;
+    }
+    if fields::equal(w, b"IF") {
+        return RuleWord::If;
+    }
+    if fields::equal(w, b"OR") {
+        return RuleWord::Or;
+    }
+    if fields::equal(w, b"THEN") {
+        return RuleWord::Then;
+    }
+    if fields::equal(w, b"AND") {
+        return RuleWord::And;
+    }
+    if fields::equal(w, b"ELSE") {
+        return RuleWord::Else;
+    }
+    if fields::equal(w, b"PRIORITY") {
+        return RuleWord::Priority;
+    }
+    RuleWord::Unknown
+}

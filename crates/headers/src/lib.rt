@@ -1,0 +1,166 @@
+// The section that a header opens, what a line is, and the lines of a group.
+ghost use mathlib.Core.Path.{_≡_};
+ghost use lib.ListN.{drop};
+ghost use Rattle.fields.specs.declared.LineKind.the-variants as kind;
+ghost use Rattle.lines.specs.Stretch.{secBy, ownBy};
+ghost use Rattle.scope.specs.Sections.{sectionOf, isRules};
+ghost use Rattle.scope.specs.Lines.{sortBy, sortOf};
+ghost use Rattle.headers.specs.Own.{sortIn, OwnFrom, NextOwn};
+use fields::LineKind;
+use fields::Span;
+use scope::Section;
+
+// `w` is a header's line, trimmed.
+pub fn section_of(w: &[u8]) -> Section
+    ensures { λ r. ⌜ r ≡ sectionOf (now (w .entry)) ⌝ }
+{
+    if fields::equal(w, b"[JUNCTIONS]") {
+        return Section::Junctions;
+    }
+    if fields::equal(w, b"[RESERVOIRS]") {
+        return Section::Reservoirs;
+    }
+    if fields::equal(w, b"[TANKS]") {
+        return Section::Tanks;
+    }
+    if fields::equal(w, b"[PIPES]") {
+        return Section::Pipes;
+    }
+    if fields::equal(w, b"[PUMPS]") {
+        return Section::Pumps;
+    }
+    if fields::equal(w, b"[VALVES]") {
+        return Section::Valves;
+    }
+    if fields::equal(w, b"[CURVES]") {
+        return Section::Curves;
+    }
+    if fields::equal(w, b"[PATTERNS]") {
+        return Section::Patterns;
+    }
+    if fields::equal(w, b"[DEMANDS]") {
+        return Section::Demands;
+    }
+    if fields::equal(w, b"[EMITTERS]") {
+        return Section::Emitters;
+    }
+    if fields::equal(w, b"[COORDINATES]") {
+        return Section::Coordinates;
+    }
+    if fields::equal(w, b"[TIMES]") {
+        return Section::Times;
+    }
+    if fields::equal(w, b"[RULES]") {
+        return Section::Rules;
+    }
+    Section::Passed
+}
+
+// ---- what a line is
+
+pub enum Sort {
+    Empty,
+    Heading(Section),
+    Start,
+    Other,
+}
+
+// A line that is neither blank nor a header, trimmed.
+fn plain_sort(w: &[u8]) -> Sort
+    ensures { λ r. ⌜ sortIn r ≡ sortBy kind.Other (now (w .entry)) ⌝ }
+{
+    if fields::starts_with(w, b"RULE") {
+        return Sort::Start;
+    }
+    Sort::Other
+}
+
+// What the line of `l` from `at` on is.
+pub fn sort_of(l: &[u8], at: usize) -> Sort
+    ensures { λ r. ⌜ sortIn r ≡ sortOf (drop at (now (l .entry))) ⌝ }
+{
+    let k = fields::line_kind(l, at);
+    let w = fields::trimmed(fields::cut(l, at, l.len()));
+    match k {
+        LineKind::Blank => Sort::Empty,
+        LineKind::Header => Sort::Heading(section_of(w)),
+        LineKind::Other => plain_sort(w),
+    }
+}
+
+pub fn in_rules(s: Section) -> bool
+    ensures { λ r. ⌜ r ≡ isRules s ⌝ }
+{
+    match s {
+        Section::Junctions => false,
+        Section::Reservoirs => false,
+        Section::Tanks => false,
+        Section::Pipes => false,
+        Section::Pumps => false,
+        Section::Valves => false,
+        Section::Curves => false,
+        Section::Patterns => false,
+        Section::Demands => false,
+        Section::Emitters => false,
+        Section::Coordinates => false,
+        Section::Times => false,
+        Section::Rules => true,
+        Section::Passed => false,
+    }
+}
+
+// The section after a line.
+pub fn section_by(k: Sort, s: Section) -> Section
+    ensures { λ r. ⌜ r ≡ secBy (sortIn k) s ⌝ }
+{
+    match k {
+        Sort::Empty => s,
+        Sort::Heading(x) => x,
+        Sort::Start => s,
+        Sort::Other => s,
+    }
+}
+
+// Whether a line is one of the open group's.
+pub fn own_by(k: Sort, s: Section) -> bool
+    ensures { λ r. ⌜ r ≡ ownBy isRules (sortIn k) s ⌝ }
+{
+    match k {
+        Sort::Empty => false,
+        Sort::Heading(_) => false,
+        Sort::Start => in_rules(s),
+        Sort::Other => in_rules(s),
+    }
+}
+
+// ---- the lines of a group
+
+pub enum OwnLine {
+    Line(Span),
+    Nothing,
+}
+
+// The next of the group's lines from `from` on, up to the end of the text.
+fn own_from(text: &[u8], from: usize) -> OwnLine
+    ensures { λ r. ⌜ OwnFrom (now (text .entry)) from r ⌝ }
+{
+    let mut section = Section::Rules;
+    let mut p = from;
+    while p < text.len() {
+        let e = fields::line_end(text, p);
+        let k = sort_of(fields::cut(text, 0, e), p);
+        if own_by(k, section) {
+            return OwnLine::Line(Span { at: p, end: e });
+        }
+        section = section_by(k, section);
+        p = e;
+    }
+    OwnLine::Nothing
+}
+
+// The next of the group's lines from `from` on, in a text read up to `at`. Lines of other sections may stand between.
+pub fn next_own(text: &[u8], at: usize, from: usize) -> OwnLine
+    ensures { λ r. ⌜ NextOwn (now (text .entry)) at from r ⌝ }
+{
+    own_from(fields::cut(text, 0, at), from)
+}
