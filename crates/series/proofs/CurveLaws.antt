@@ -1,8 +1,8 @@
 -- The last x of a curve, looked for from the end on; and what storing a point makes of the network. Assumes nothing.
-use Prim.Native.Nat.{ℕ, zero, suc, _+_, _-_, _*_, _≤_, _<_}
+use Prim.Native.Nat.{ℕ, suc, _+_, _-_, _*_, _≤_, _<_}
 use native.Mathlib.Omega.{arith}
 use borrow.Author.Tests.{lt-ltb, le-ltb, eq-eqb, ne-eqb}
-use mathlib.Core.Path.{_≡_, refl, sym, ap, _∙_}
+use mathlib.Core.Path.{_≡_, refl, ap, _∙_}
 use mathlib.Core.Bool.{Bool, true, false, cond, _&&_}
 use mathlib.Core.List.{List, [], _∷_, _++_}
 use mathlib.Core.Option.{Option, none, some}
@@ -10,9 +10,9 @@ use lib.ListN.{length, take, getD, length-append}
 use lib.Seq.{take-suc, take-all}
 use lib.Dec.{ltb, eqb}
 use lib.Ieee.{Float, lt}
-use Rattle.fields.specs.Fields.{Name, part, nameIn, Fits}
+use Rattle.fields.specs.Fields.{part, nameIn, Fits}
 use Rattle.fields.specs.declared.Span.{Span}
-use Rattle.scope.specs.Records.{Network, Point, zeroF, lookup, countsOf}
+use Rattle.scope.specs.Records.{Network, Point, zeroF, lookup}
 use Rattle.scope.specs.Sections.{roomCurves, roomPoints}
 use Rattle.scope.specs.Series.{orElse, lastX, falls, addPoint}
 use Rattle.scope.specs.Tables.{idWords}

@@ -1,22 +1,22 @@
 -- A junction's own demand, looked for; and what storing a demand makes of the network. Assumes nothing.
-use Prim.Native.Nat.{ℕ, zero, suc, _+_, _-_, _*_, _≤_, _<_}
+use Prim.Native.Nat.{ℕ, suc, _+_, _-_, _*_, _≤_, _<_}
 use native.Mathlib.Omega.{arith}
 use native.Mathlib.Numerals.{add-one}
 use borrow.Author.Tests.{lt-ltb, le-ltb, eq-eqb, ne-eqb}
 use mathlib.Core.Path.{_≡_, refl, sym, ap, _∙_}
-use mathlib.Core.Bool.{Bool, true, false, cond, _&&_}
+use mathlib.Core.Bool.{Bool, true, false, cond}
 use mathlib.Core.List.{List, [], _∷_, _++_}
 use mathlib.Core.Option.{Option, none, some}
-use lib.ListN.{length, drop, set, getD, length-append, drop-of-length-le}
+use lib.ListN.{length, drop, getD, length-append, drop-of-length-le}
 use lib.Seq.{drop-cons}
-use lib.Dec.{ltb, eqb}
+use lib.Dec.{eqb}
 use lib.Ieee.{Float}
-use Rattle.fields.specs.Fields.{Name, part, nameIn, Fits}
+use Rattle.fields.specs.Fields.{Name, part, nameIn}
 use Rattle.fields.specs.declared.Span.{Span}
 use Rattle.fields.specs.declared.Field.{Field}
 use Rattle.fields.specs.declared.Field.the-variants.{Taken, Nothing}
-use Rattle.scope.specs.Records.{Network, NodeKind, junction, reservoir, tank, Demand, noNode, lookup, nodeIds, countsOf}
-use Rattle.scope.specs.Sections.{roomNodes, roomDemands}
+use Rattle.scope.specs.Records.{Network, NodeKind, junction, reservoir, tank, Demand, noNode, lookup, nodeIds}
+use Rattle.scope.specs.Sections.{roomDemands}
 use Rattle.scope.specs.Series.{demandAt, ownFrom, addDemand, setDemand}
 use Rattle.scope.specs.Tables.{flag, nameWords, demandWords}
 use Rattle.scope.specs.declared.Counts.{Counts}
@@ -29,7 +29,7 @@ use Rattle.tables.specs.Holding as holding
 use Rattle.tables.specs.Holding.{SitsOr, Words, Holds, After, isJunction}
 use Rattle.tables.specs.declared.Kept.{Kept}
 use Rattle.tables.specs.declared.Kept.the-variants.{Stored, Refused}
-use Rattle.tables.proofs.HoldLaws.{sits-field, add-demand, change-demand, same-count-demands, count-nodes, count-demands}
+use Rattle.tables.proofs.HoldLaws.{sits-field, add-demand, change-demand, same-count-demands, count-demands}
 use Rattle.tables.proofs.LookLaws.{found-below}
 use Rattle.tables.proofs.ReadLaws.{demand-word, node-count}
 use Rattle.series.specs.Storing.{noDemand, isOwn}

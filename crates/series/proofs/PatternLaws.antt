@@ -1,7 +1,7 @@
 -- A loop over the multipliers of a line. Assumes nothing.
-use Prim.Native.Nat.{ℕ, zero, suc, _+_, _≤_, _<_}
+use Prim.Native.Nat.{ℕ, suc, _+_, _≤_}
 use native.Mathlib.Omega.{arith}
-use mathlib.Core.Path.{_≡_, refl, sym, ap, _∙_}
+use mathlib.Core.Path.{_≡_, refl, ap, _∙_}
 use mathlib.Core.Bool.{Bool, true, false, cond}
 use mathlib.Core.List.{List, [], _∷_, _++_, append-assoc, append-nil}
 use lib.ListN.{length, drop, length-append, length-drop}
@@ -13,9 +13,8 @@ use Rattle.fields.specs.Lines.{isSpace}
 use Rattle.fields.specs.Fields.{Name, onFirst, before, fieldsOf, fieldsAt}
 use Rattle.scope.specs.declared.Reason.{Reason}
 use Rattle.scope.specs.declared.Reason.the-variants as reason
-use Rattle.scope.specs.Values.{Read, good, bad, onRead, asNumber}
+use Rattle.scope.specs.Values.{Read, good, bad, onRead}
 use Rattle.scope.specs.Series.{multipliersOf}
-use Rattle.takers.specs.declared.TookNumber.{TookNumber}
 use Rattle.takers.specs.declared.TookNumber.the-variants.{Number, NoNumber}
 use Rattle.takers.specs.Taking.{numberTook}
 

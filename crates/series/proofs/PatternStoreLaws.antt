@@ -4,16 +4,16 @@ use native.Mathlib.Omega.{arith}
 use borrow.Author.Tests.{lt-ltb, le-ltb, le-leb, lt-leb}
 use mathlib.Core.Path.{_≡_, refl, sym, ap, _∙_}
 use mathlib.Core.Bool.{Bool, true, false, _&&_}
-use mathlib.Core.List.{List, [], _∷_, _++_, map}
+use mathlib.Core.List.{List, [], _∷_}
 use lib.ListN.{length, replicate, length-append, length-map}
-use lib.Dec.{ltb, leb}
+use lib.Dec.{ltb}
 use lib.Ieee.{Float}
 use Rattle.decimals.specs.Numbers.{numberOf}
 use Rattle.decimals.specs.declared.Number as D
 use Rattle.decimals.specs.declared.Number.the-variants.{Value, Malformed, Beyond}
 use Rattle.fields.specs.Fields.{Name, part, nameIn, fieldsAt, Fits}
 use Rattle.fields.specs.declared.Span.{Span}
-use Rattle.scope.specs.Records.{Network, countsOf, lookup}
+use Rattle.scope.specs.Records.{Network, lookup}
 use Rattle.scope.specs.Sections.{roomPatterns, roomMultipliers}
 use Rattle.scope.specs.Values.{Read, good, bad, onRead, onTook, asNumber}
 use Rattle.scope.specs.Series.{multipliersOf, addPattern}

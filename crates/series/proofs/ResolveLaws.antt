@@ -3,21 +3,21 @@ use Prim.Native.Nat.{ℕ, zero, suc, _+_, _-_, _*_, _≤_, _<_}
 use native.Mathlib.Omega.{arith}
 use native.Mathlib.Numerals.{add-one}
 use mathlib.Core.Path.{_≡_, refl, sym, ap, _∙_, subst}
-use mathlib.Core.Bool.{Bool, true, false}
+use mathlib.Core.Bool.{Bool}
 use mathlib.Core.List.{List, [], _∷_, _++_, map}
 use mathlib.Core.Option.{Option, none, some}
-use lib.ListN.{length, take, drop, set, getD, length-set}
+use lib.ListN.{length, take, drop, set, getD}
 use lib.Seq.{set-split}
 use lib.Ieee.{Float}
-use Rattle.fields.specs.Fields.{Name, part}
-use Rattle.scope.specs.Records.{Network, Node, Place, NodeKind, junction, reservoir, tank, Demand, noNode, lookup, countsOf, withNodes, withDemands}
+use Rattle.fields.specs.Fields.{Name}
+use Rattle.scope.specs.Records.{Network, Node, Place, NodeKind, junction, reservoir, tank, Demand, noNode, lookup, withNodes, withDemands}
 use Rattle.scope.specs.Series.{placeIn, indexOf, resolvedKind, resolvedNode, resolvedDemand, resolved}
-use Rattle.scope.specs.Tables.{indexNo, nameWords, kindWords, placed, keyOf, idWords, nodeWords, nodeNumbers, demandWords}
+use Rattle.scope.specs.Tables.{indexNo, nameWords, placed, idWords, nodeWords, nodeNumbers, demandWords}
 use Rattle.scope.specs.declared.Counts.{Counts}
 use Rattle.scope.specs.declared.Found.{Found}
 use Rattle.tables.specs.Table.{splice}
 use Rattle.tables.specs.Layout.{nodesAt, nodeSize, demandsAt, demandSize}
-use Rattle.tables.specs.Holding.{Sits, SitsOr, Words, Holds, Sound, NodeFine, DemandFine, patternIn, kindNo}
+use Rattle.tables.specs.Holding.{SitsOr, Holds, NodeFine, DemandFine, patternIn, kindNo}
 use Rattle.tables.proofs.HoldLaws.{each-at, change-node-words, change-demand-words, same-count-nodes, same-count-demands, count-nodes, count-demands}
 use Rattle.tables.proofs.ReadLaws.{demand-word, node-word, node-kind}
 use Rattle.series.specs.Storing.{noDemand, demandResolved, nodeResolved, demandsResolved, nodesResolved}

@@ -1,9 +1,9 @@
 -- A loop that stores the multipliers of a line. Assumes nothing.
-use Prim.Native.Nat.{ℕ, zero, suc, _+_, _-_, _≤_, _<_}
+use Prim.Native.Nat.{ℕ, suc, _+_, _-_, _≤_, _<_}
 use native.Mathlib.Omega.{arith}
 use mathlib.Core.Path.{_≡_, refl, sym, ap, _∙_}
-use mathlib.Core.List.{List, [], _∷_, _++_}
-use lib.ListN.{length, take, drop, set, getD, replicate, length-drop, length-replicate, length-set, getD-replicate}
+use mathlib.Core.List.{List, [], _∷_}
+use lib.ListN.{length, drop, set, getD, replicate, length-drop, length-replicate, length-set, getD-replicate}
 use lib.Seq.{paste, paste-zero, paste-suc, take-all, drop-cons}
 use lib.Ieee.{Float, nan}
 use Rattle.decimals.specs.Numbers.{numberOf}
@@ -13,7 +13,7 @@ use Rattle.fields.specs.Fields.{Name}
 use Rattle.scope.specs.Sections.{roomMultipliers}
 use Rattle.scope.specs.Tables.{recordWords, roomNumbers}
 use Rattle.scope.specs.declared.Reason.{Reason}
-use Rattle.scope.specs.Values.{Read, good, bad, onRead, Took, took, refused, onTook, asNumber, numberFrom}
+use Rattle.scope.specs.Values.{Read, good, bad, onRead, took, refused, asNumber, numberFrom}
 use Rattle.scope.specs.Series.{multipliersOf}
 use Rattle.tables.specs.Table.{splice}
 use Rattle.tables.specs.Layout.{multipliersAt, multiplierNumbersAt}

@@ -1,7 +1,7 @@
 -- What the storing functions of this crate promise beside scope's steps: a demand that is a junction's own, and the patterns' places set one record at a time. Assumes nothing.
 use Prim.Native.Nat.{ℕ}
 use mathlib.Core.Bool.{Bool, _&&_}
-use mathlib.Core.List.{List, map}
+use mathlib.Core.List.{map}
 use mathlib.Core.Option.{none}
 use lib.ListN.{set, getD}
 use lib.Dec.{eqb}

@@ -1,6 +1,7 @@
+-- `series::add_demand` meets its contract. Assumes nothing.
 use native.Mathlib.Omega.{arith}
 use denote.Ref.{now}
-use mathlib.Core.Path.{_≡_, refl, sym, ap, _∙_}
+use mathlib.Core.Path.{_≡_, sym, _∙_}
 use Rattle.scope.specs.Records.{Network}
 use Rattle.scope.specs.Series.{ownFrom}
 use Rattle.tables.specs.Holding.{Holds}

@@ -1,8 +1,9 @@
-use Prim.Native.Nat.{ℕ, _+_, _<_}
+-- `series::count_multipliers` meets its contract. Assumes nothing.
+use Prim.Native.Nat.{_+_}
 use native.Mathlib.Omega.{arith}
 use borrow.Author.Needs.{needs}
 use denote.Ref.{now}
-use mathlib.Core.Path.{_≡_, refl, sym, ap, _∙_}
+use mathlib.Core.Path.{_≡_, sym, _∙_}
 use mathlib.Core.List.{_∷_}
 use lib.ListN.{length}
 use Rattle.decimals.specs.Numbers.{numberOf}
@@ -12,12 +13,6 @@ use Rattle.takers.specs.Taking.{numberTook}
 use Rattle.series.proofs.PatternLaws.{Going, start-going, more-going, less-going, done-going, bad-going, line-le}
 use Rattle.series.proofs.count_multipliers.Statement.{statement}
 use Rattle.series.proofs.count_multipliers.Tie as tie
-use Rattle.series.proofs.count_multipliers.Reads as reads
-use Rattle.series.proofs.count_multipliers.Lts as lts
-use Rattle.decimals.proofs.read_number.Reads as read-number-reads
-use Rattle.fields.proofs.letters_of.Reads as letters-of-reads
-use Rattle.fields.proofs.next_field.Reads as next-field-reads
-use Rattle.takers.proofs.as_number.Reads as as-number-reads
 
 abbrev Inv-loop : tie.InvT-loop
 Inv-loop l at n₀ p₀ n p =
@@ -36,62 +31,48 @@ one c = rw (← c .before .before .before .before .before .letters-of .ensures, 
 none : (c : tie.After-known-told3 Inv-loop μ-loop) → numberTook (numberOf (nameIn (now (c .before .before .before .before .before .before .before .before .before .before .before .before .args .l)) (c .before .before .before .before .before .before .before .f .given .0 .0) .letters)) (c .before .before .before .before .before .before .before .f .given .0 .0 .end) ≡ NoNumber (c .before .t2 .given .0 .0)
 none c = rw (← c .before .before .before .before .before .letters-of .ensures, ← c .before .before .before .before .read-number .ensures .0) (sym (c .before .before .before .as-number .ensures) ∙ c .before .t2 .given .1)
 
--- src/lib.rt:79:5
 loop-holds : tie.Need-loop-holds Inv-loop μ-loop
 loop-holds c = start-going (fieldsAt (now (c .before .args .l)) (c .before .args .at))
 
--- src/lib.rt:80:13
 next-field-requires : tie.Need-next-field-requires Inv-loop μ-loop
 next-field-requires c κs = search needs
 
--- src/lib.rt:81:26
 enum-known-f : tie.Need-enum-known-f Inv-loop μ-loop
 enum-known-f c = search needs
 
--- src/lib.rt:82:13
 enum-told : tie.Need-enum-told Inv-loop μ-loop
 enum-told c = search needs
 
--- src/lib.rt:82:13
 returns : tie.Need-returns Inv-loop μ-loop
 returns c = done-going (c .before .before .before .loop .inv) (c .before .before .next-field .ensures .nothing (c .enum-told .given .1))
 
--- src/lib.rt:85:35
 letters-of-requires : tie.Need-letters-of-requires Inv-loop μ-loop
 letters-of-requires c κs = search needs
 
--- src/lib.rt:85:13
 read-number-requires : tie.Need-read-number-requires Inv-loop μ-loop
 read-number-requires c κs = search needs
 
--- src/lib.rt:84:13
 as-number-requires : tie.Need-as-number-requires Inv-loop μ-loop
 as-number-requires c κs = search needs
 
--- src/lib.rt:89:35
 enum-known-t : tie.Need-enum-known-t Inv-loop μ-loop
 enum-known-t c = search needs
 
--- src/lib.rt:90:17
 add-n : tie.Need-add-n Inv-loop μ-loop
 add-n c =
     let l = now (c .before .before .before .before .before .before .before .before .before .before .before .before .args .l) in
     let h : length (fieldsAt l (c .before .before .before .before .before .before .before .before .before .before .loop .p)) ≡ length (fieldsAt l (c .before .t .given .0 .1 .0)) + 1 = less-going (c .before .before .before .before .before .before .before .before .before .before .loop .inv) l _ _ _ _ (field (c .before .before .before .before .before .before)) (one (c)) in
     omega (arith, h, c .before .before .before .before .before .before .before .before .before .before .loop .inv .left, line-le l (c .before .before .before .before .before .before .before .before .before .before .before .before .args .at))
 
--- src/lib.rt:79:5
 loop-less : tie.Need-loop-less Inv-loop μ-loop
 loop-less c = omega (arith, less-going (c .before .before .before .before .before .before .before .before .before .before .loop .inv) (now (c .before .before .before .before .before .before .before .before .before .before .before .before .args .l)) _ _ _ _ (field (c .before .before .before .before .before .before)) (one (c)))
 
--- src/lib.rt:79:5
 loop-again : tie.Need-loop-again Inv-loop μ-loop
 loop-again c = more-going (c .before .before .before .before .before .before .before .before .before .before .loop .inv) (now (c .before .before .before .before .before .before .before .before .before .before .before .before .args .l)) _ _ _ _ (field (c .before .before .before .before .before .before)) (one (c))
 
--- src/lib.rt:93:34
 enum-known-t-2 : tie.Need-enum-known-t-2 Inv-loop μ-loop
 enum-known-t-2 c = search needs
 
--- src/lib.rt:94:17
 returns-2 : tie.Need-returns-2 Inv-loop μ-loop
 returns-2 c = bad-going (c .before .before .before .before .before .before .before .before .before .before .loop .inv) (now (c .before .before .before .before .before .before .before .before .before .before .before .before .args .l)) _ _ _ (field (c .before .before .before .before .before .before)) (none (c))
 

@@ -1,21 +1,17 @@
+-- `series::curve_line` meets its contract. Assumes nothing.
 use denote.Ref.{now}
-use mathlib.Core.Path.{_≡_, refl, sym, ap, _∙_, subst}
+use mathlib.Core.Path.{_≡_, refl, sym, subst}
 use lib.ListN.{take}
 use lib.Seq.{length-take-le}
 use Rattle.fields.specs.Fields.{fieldsAt, Fits}
 use Rattle.scope.specs.Values.{good, bad}
-use Rattle.takers.specs.Taking.{MayFit}
-use Rattle.takers.proofs.TextLaws.{fits-text, may-fit-text}
+use Rattle.takers.proofs.TextLaws.{fits-text}
 use Rattle.series.specs.Lines.{pointOf, PointAs, pointIn}
 use Rattle.series.specs.declared.PointRead.{PointRead}
 use Rattle.series.proofs.StepLaws.{curve-good, curve-bad}
 use borrow.Author.Needs.{needs}
 use Rattle.series.proofs.curve_line.Statement.{statement}
 use Rattle.series.proofs.curve_line.Tie as tie
-use Rattle.series.proofs.curve_line.Reads as reads
-use Rattle.series.proofs.curve_line.Lts as lts
-use Rattle.series.proofs.read_curve.Reads as read-curve-reads
-use Rattle.series.proofs.store_point.Reads as store-point-reads
 
 is-read : (c : tie.After-known-told) → (pointOf (fieldsAt (take (c .before .before .before .before .before .before .before .before .args .end) (now (c .before .before .before .before .before .before .before .before .args .text))) (c .before .before .before .before .before .before .before .before .args .at)) ≡ good (pointIn (take (c .before .before .before .before .before .before .before .before .args .end) (now (c .before .before .before .before .before .before .before .before .args .text))) (c .before .read .given .0 .0))) × Fits (take (c .before .before .before .before .before .before .before .before .args .end) (now (c .before .before .before .before .before .before .before .before .args .text))) (c .before .read .given .0 .0 .id)
 is-read c = subst (λ (x : PointRead). PointAs (take (c .before .before .before .before .before .before .before .before .args .end) (now (c .before .before .before .before .before .before .before .before .args .text))) (pointOf (fieldsAt (take (c .before .before .before .before .before .before .before .before .args .end) (now (c .before .before .before .before .before .before .before .before .args .text))) (c .before .before .before .before .before .before .before .before .args .at))) x) (c .before .read .given .1) (c .before .before .before .read-curve .ensures)
@@ -23,39 +19,30 @@ is-read c = subst (λ (x : PointRead). PointAs (take (c .before .before .before 
 no-read : (c : tie.After-known-told2) → pointOf (fieldsAt (take (c .before .before .before .before .before .before .before .before .args .end) (now (c .before .before .before .before .before .before .before .before .args .text))) (c .before .before .before .before .before .before .before .before .args .at)) ≡ bad (c .before .read2 .given .0 .0)
 no-read c = subst (λ (x : PointRead). PointAs (take (c .before .before .before .before .before .before .before .before .args .end) (now (c .before .before .before .before .before .before .before .before .args .text))) (pointOf (fieldsAt (take (c .before .before .before .before .before .before .before .before .args .end) (now (c .before .before .before .before .before .before .before .before .args .text))) (c .before .before .before .before .before .before .before .before .args .at))) x) (c .before .read2 .given .1) (c .before .before .before .read-curve .ensures)
 
--- src/lib.rt:171:27
 slice-aggregate-read-curve : tie.Need-slice-aggregate-read-curve
 slice-aggregate-read-curve c = sym (length-take-le (c .before .before .before .before .args .end) (now (c .before .before .before .before .args .text)) (c .before .before .before .before .pre .1))
 
--- src/lib.rt:171:9
 read-curve-requires : tie.Need-read-curve-requires
 read-curve-requires c κs = search needs
 
--- src/lib.rt:173:26
 enum-known-read : tie.Need-enum-known-read
 enum-known-read c = search needs
 
--- src/lib.rt:173:32
 store-point-requires : tie.Need-store-point-requires
 store-point-requires c κs = (c .before .before .before .before .before .before .before .before .before .before .pre .0, fits-text (now (c .before .before .before .before .before .before .before .before .before .before .args .text)) (c .before .before .before .before .before .before .before .before .before .before .args .end) (c .before .before .before .read .given .0 .0 .id) (is-read (c .before .before) .1))
 
--- src/lib.rt:174:28
 enum-known-read-2 : tie.Need-enum-known-read-2
 enum-known-read-2 c = search needs
 
--- src/lib.rt:159:1
 same-length : tie.Need-same-length
 same-length c = search needs
 
--- src/lib.rt:159:1
 same-length-2 : tie.Need-same-length-2
 same-length-2 c = search needs
 
--- src/lib.rt:159:1
 returns : tie.Need-returns
 returns c = λ m h. rw (curve-good (now (c .before .before .before .before .before .before .before .before .before .before .before .before .before .before .before .args .text)) (c .before .before .before .before .before .before .before .before .before .before .before .before .before .before .before .args .end) (c .before .before .before .before .before .before .before .before .before .before .before .before .before .before .before .args .at) m (c .before .before .before .before .before .before .before .before .read .given .0 .0) (is-read (c .before .before .before .before .before .before .before) .0) (is-read (c .before .before .before .before .before .before .before) .1)) (c .before .before .before .before .store-point .ensures m h)
 
--- src/lib.rt:159:1
 returns-2 : tie.Need-returns-2
 returns-2 c = λ m h. rw (curve-bad (now (c .before .before .before .before .before .before .before .before .args .text)) (c .before .before .before .before .before .before .before .before .args .end) (c .before .before .before .before .before .before .before .before .args .at) m _ (no-read c)) (refl, refl, refl)
 

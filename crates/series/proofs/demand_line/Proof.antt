@@ -1,5 +1,6 @@
+-- `series::demand_line` meets its contract. Assumes nothing.
 use denote.Ref.{now}
-use mathlib.Core.Path.{_≡_, refl, sym, ap, _∙_, subst}
+use mathlib.Core.Path.{_≡_, refl, sym, subst}
 use lib.ListN.{take}
 use lib.Seq.{length-take-le}
 use Rattle.fields.specs.Fields.{fieldsAt, Fits}

@@ -1,45 +1,33 @@
+-- `series::is_own` meets its contract. Assumes nothing.
 use native.Mathlib.Omega.{arith}
-use denote.Ref.{now}
 use Rattle.series.proofs.DemandLaws.{same-node, other-node}
-use borrow.Author.Needs.{needs}
 use Rattle.series.proofs.is_own.Statement.{statement}
 use Rattle.series.proofs.is_own.Tie as tie
-use Rattle.series.proofs.is_own.Reads as reads
-use Rattle.series.proofs.is_own.Lts as lts
 
--- src/lib.rt:343:33
 mul-row : tie.Need-mul-row
 mul-row c = omega (arith, c .pre .0, c .pre .1)
 
--- src/lib.rt:343:15
 add-row : tie.Need-add-row
 add-row c = omega (arith, c .pre .0, c .pre .1)
 
--- src/lib.rt:344:8
 mul-if1 : tie.Need-mul-if1
 mul-if1 c = omega (arith, c .pre .0, c .pre .1)
 
--- src/lib.rt:344:8
 shared-slice-read-if1 : tie.Need-shared-slice-read-if1
 shared-slice-read-if1 c = omega (arith, c .before .pre .0, c .before .pre .1)
 
--- src/lib.rt:345:22
 add-result : tie.Need-add-result
 add-result c = omega (arith, c .before .before .pre .0, c .before .before .pre .1)
 
--- src/lib.rt:345:16
 mul-result : tie.Need-mul-result
 mul-result c = omega (arith, c .before .before .pre .0, c .before .before .pre .1)
 
--- src/lib.rt:345:16
 shared-slice-read-result : tie.Need-shared-slice-read-result
 shared-slice-read-result c = omega (arith, c .before .before .before .pre .0, c .before .before .before .pre .1)
 
--- src/lib.rt:345:9
 returns : tie.Need-returns
 returns c = λ text m hw hk. same-node hw (c .before .before .before .args .k) (c .before .before .before .args .node) hk (c .before .if1 .taken)
 
--- src/lib.rt:339:1
 returns-2 : tie.Need-returns-2
 returns-2 c = λ text m hw hk. other-node hw (c .before .before .args .k) (c .before .before .args .node) hk (c .if1 .left)
 

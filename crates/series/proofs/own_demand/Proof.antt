@@ -1,13 +1,11 @@
-use Prim.Native.Nat.{ℕ, _-_}
+-- `series::own_demand` meets its contract. Assumes nothing.
+use Prim.Native.Nat.{_-_}
 use native.Mathlib.Omega.{arith}
 use denote.Ref.{now}
-use mathlib.Core.Path.{_≡_, sym, _∙_}
+use mathlib.Core.Path.{sym, _∙_}
 use Rattle.series.proofs.DemandLaws.{Searched, start-search, next-search, found-search, none-search}
 use Rattle.series.proofs.own_demand.Statement.{statement}
 use Rattle.series.proofs.own_demand.Tie as tie
-use Rattle.series.proofs.own_demand.Reads as reads
-use Rattle.series.proofs.own_demand.Lts as lts
-use Rattle.series.proofs.is_own.Reads as is-own-reads
 
 abbrev Inv-loop : tie.InvT-loop
 Inv-loop words demands node k₀ k =
@@ -17,31 +15,24 @@ abbrev μ-loop : tie.MeasureT-loop
 μ-loop words demands node k₀ k =
     demands - k
 
--- src/lib.rt:356:5
 loop-holds : tie.Need-loop-holds Inv-loop μ-loop
 loop-holds c = start-search (now (c .before .args .words)) (c .before .args .demands) (c .before .args .node)
 
--- src/lib.rt:357:12
 is-own-requires : tie.Need-is-own-requires Inv-loop μ-loop
 is-own-requires c κs = (omega (arith, c .loop-test .taken, c .before .before .before .pre .0), c .before .before .before .pre .1)
 
--- src/lib.rt:358:13
 returns : tie.Need-returns Inv-loop μ-loop
 returns c = λ text m hw e. found-search (now (c .before .before .before .before .before .args .words)) (c .before .before .before .before .before .args .demands) (c .before .before .before .before .before .args .node) (c .before .before .before .loop .inv) (c .before .before .loop-test .taken) (λ t n h k. sym (c .if1 .taken) ∙ c .before .is-own .ensures t n h k) text m hw e
 
--- src/lib.rt:360:9
 add-k : tie.Need-add-k Inv-loop μ-loop
 add-k c = omega (arith, c .before .before .loop-test .taken, c .before .before .before .before .before .pre .0)
 
--- src/lib.rt:356:5
 loop-less : tie.Need-loop-less Inv-loop μ-loop
 loop-less c = omega (arith, c .before .before .loop-test .taken)
 
--- src/lib.rt:356:5
 loop-again : tie.Need-loop-again Inv-loop μ-loop
 loop-again c = next-search (now (c .before .before .before .before .before .args .words)) (c .before .before .before .before .before .args .demands) (c .before .before .before .before .before .args .node) (c .before .before .before .loop .inv) (c .before .before .loop-test .taken) (λ t n h k. sym (c .if1 .left) ∙ c .before .is-own .ensures t n h k)
 
--- src/lib.rt:351:1
 returns-2 : tie.Need-returns-2 Inv-loop μ-loop
 returns-2 c = λ text m hw e. none-search (now (c .before .before .before .args .words)) (c .before .before .before .args .demands) (c .before .before .before .args .node) (c .before .loop .inv) (c .loop-test .left) text m hw e
 

@@ -1,11 +1,11 @@
+-- `series::pattern_line` meets its contract. Assumes nothing.
 use denote.Ref.{now}
-use mathlib.Core.Path.{_≡_, refl, sym, ap, _∙_, subst}
+use mathlib.Core.Path.{_≡_, refl, sym, subst}
 use lib.ListN.{take}
 use lib.Seq.{length-take-le}
-use Rattle.fields.specs.Fields.{fieldsAt, Fits}
-use Rattle.scope.specs.Values.{good, bad}
-use Rattle.takers.specs.Taking.{MayFit}
-use Rattle.takers.proofs.TextLaws.{fits-text, may-fit-text}
+use Rattle.fields.specs.Fields.{fieldsAt}
+use Rattle.scope.specs.Values.{bad}
+use Rattle.takers.proofs.TextLaws.{fits-text}
 use Rattle.series.specs.Lines.{patternOf, PatternAs, PatternIs}
 use Rattle.series.specs.declared.PatternRead.{PatternRead}
 use Rattle.series.proofs.StepLaws.{pattern-good, pattern-bad}

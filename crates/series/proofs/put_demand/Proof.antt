@@ -1,9 +1,9 @@
+-- `series::put_demand` meets its contract. Assumes nothing.
 use Prim.Native.Nat.{ℕ, _+_, _*_}
 use native.Mathlib.Omega.{arith}
 use denote.Ref.{now}
-use mathlib.Core.Path.{_≡_, ap, _∙_}
+use mathlib.Core.Path.{ap, _∙_}
 use mathlib.Core.List.{List}
-use lib.ListN.{length}
 use Rattle.tables.specs.Table.{splice}
 use Rattle.tables.specs.Layout.{demandsAt, demandSize}
 use Rattle.series.proofs.DemandLaws.{demand-words, words-two}

@@ -1,18 +1,16 @@
-use Prim.Native.Nat.{ℕ, _+_, _<_}
+-- `series::put_multipliers` meets its contract. Assumes nothing.
+use Prim.Native.Nat.{_<_}
 use native.Mathlib.Omega.{arith}
 use borrow.Author.Needs.{needs}
 use denote.Ref.{now}
-use mathlib.Core.Path.{_≡_, refl, sym, ap, _∙_}
+use mathlib.Core.Path.{_≡_, sym, ap, _∙_}
 use lib.ListN.{length}
 use Rattle.fields.specs.Fields.{fieldsAt}
-use Rattle.scope.specs.Values.{Took, took, refused, numberFrom}
+use Rattle.scope.specs.Values.{took, numberFrom}
 use Rattle.takers.specs.Taking.{tookNumber}
 use Rattle.series.proofs.StoringLaws.{took-one, Storing, start-storing, room-for, turn, ended}
 use Rattle.series.proofs.put_multipliers.Statement.{statement}
 use Rattle.series.proofs.put_multipliers.Tie as tie
-use Rattle.series.proofs.put_multipliers.Reads as reads
-use Rattle.series.proofs.put_multipliers.Lts as lts
-use Rattle.takers.proofs.take_number.Reads as take-number-reads
 
 abbrev Inv-loop : tie.InvT-loop
 Inv-loop l at first pattern words₀ numbers₀ i₀ p₀ words numbers i p =
@@ -28,67 +26,51 @@ one c = sym (c .before .before .before .take-number .ensures) ∙ ap (tookNumber
 room : (c : tie.After-known-told Inv-loop μ-loop) → c .before .before .before .before .loop .i < 2048
 room c = room-for (c .before .before .before .before .loop .inv) _ _ (one c)
 
--- src/lib.rt:262:5
 loop-holds : tie.Need-loop-holds Inv-loop μ-loop
 loop-holds c = start-storing (fieldsAt (now (c .before .before .before .args .l)) (c .before .before .before .args .at)) (c .before .before .before .args .first) (c .before .before .before .args .pattern) (now (c .before .before .before .args .words)) (now (c .before .before .before .args .numbers)) (c .before .before .before .pre .0) (c .before .before .before .pre .1) (c .before .before .before .pre .2) (c .before .before .before .pre .3) (c .before .before .before .pre .4)
 
--- src/lib.rt:263:13
 take-number-requires : tie.Need-take-number-requires Inv-loop μ-loop
 take-number-requires c κs = search needs
 
--- src/lib.rt:264:32
 enum-known-t : tie.Need-enum-known-t Inv-loop μ-loop
 enum-known-t c = search needs
 
--- src/lib.rt:265:13
 enum-told : tie.Need-enum-told Inv-loop μ-loop
 enum-told c = search needs
 
--- src/lib.rt:265:13
 same-length : tie.Need-same-length Inv-loop μ-loop
 same-length c = c .before .before .before .loop .inv .words-long
 
--- src/lib.rt:265:13
 same-length-2 : tie.Need-same-length-2 Inv-loop μ-loop
 same-length-2 c = c .before .before .before .loop .inv .numbers-long
 
--- src/lib.rt:265:13
 returns : tie.Need-returns Inv-loop μ-loop
 returns c = λ xs e. ended (c .before .before .before .loop .inv) (c .enum-told .given .0 .0) (sym (c .before .before .take-number .ensures) ∙ ap (tookNumber (now (c .before .before .before .before .before .before .before .args .l))) (c .enum-told .given .1)) xs e
 
--- src/lib.rt:267:15
 add-words : tie.Need-add-words Inv-loop μ-loop
 add-words c = omega (arith, room c, c .before .before .before .before .loop .inv .words-room, c .before .before .before .before .loop .inv .numbers-room, c .before .before .before .before .loop .inv .words-long, c .before .before .before .before .loop .inv .numbers-long)
 
--- src/lib.rt:267:9
 mul-words : tie.Need-mul-words Inv-loop μ-loop
 mul-words c = omega (arith, room c, c .before .before .before .before .loop .inv .words-room, c .before .before .before .before .loop .inv .numbers-room, c .before .before .before .before .loop .inv .words-long, c .before .before .before .before .loop .inv .numbers-long)
 
--- src/lib.rt:267:9
 slice-write-words : tie.Need-slice-write-words Inv-loop μ-loop
 slice-write-words c = omega (arith, room c, c .before .before .before .before .loop .inv .words-room, c .before .before .before .before .loop .inv .numbers-room, c .before .before .before .before .loop .inv .words-long, c .before .before .before .before .loop .inv .numbers-long)
 
--- src/lib.rt:268:17
 add-numbers : tie.Need-add-numbers Inv-loop μ-loop
 add-numbers c = omega (arith, room c, c .before .before .before .before .loop .inv .words-room, c .before .before .before .before .loop .inv .numbers-room, c .before .before .before .before .loop .inv .words-long, c .before .before .before .before .loop .inv .numbers-long)
 
--- src/lib.rt:268:9
 mul-numbers : tie.Need-mul-numbers Inv-loop μ-loop
 mul-numbers c = omega (arith, room c, c .before .before .before .before .loop .inv .words-room, c .before .before .before .before .loop .inv .numbers-room, c .before .before .before .before .loop .inv .words-long, c .before .before .before .before .loop .inv .numbers-long)
 
--- src/lib.rt:268:9
 slice-write-numbers : tie.Need-slice-write-numbers Inv-loop μ-loop
 slice-write-numbers c = omega (arith, room c, c .before .before .before .before .loop .inv .words-room, c .before .before .before .before .loop .inv .numbers-room, c .before .before .before .before .loop .inv .words-long, c .before .before .before .before .loop .inv .numbers-long)
 
--- src/lib.rt:269:9
 add-i : tie.Need-add-i Inv-loop μ-loop
 add-i c = omega (arith, room c, c .before .before .before .before .loop .inv .words-room, c .before .before .before .before .loop .inv .numbers-room, c .before .before .before .before .loop .inv .words-long, c .before .before .before .before .loop .inv .numbers-long)
 
--- src/lib.rt:262:5
 loop-less : tie.Need-loop-less Inv-loop μ-loop
 loop-less c = omega (arith, took-one (fieldsAt (now (c .before .before .before .before .before .before .before .before .args .l)) (c .before .before .before .before .loop .p)) (fieldsAt (now (c .before .before .before .before .before .before .before .before .args .l)) (c .before .t .given .0 .1 .0)) (c .before .t .given .0 .0) (one c) .0)
 
--- src/lib.rt:262:5
 loop-again : tie.Need-loop-again Inv-loop μ-loop
 loop-again c = turn (c .before .before .before .before .loop .inv) (fieldsAt (now (c .before .before .before .before .before .before .before .before .args .l)) (c .before .t .given .0 .1 .0)) (c .before .t .given .0 .0) (one c)
 

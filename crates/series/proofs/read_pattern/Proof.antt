@@ -1,5 +1,6 @@
+-- `series::read_pattern` meets its contract. Assumes nothing.
 use denote.Ref.{now}
-use mathlib.Core.Path.{_≡_, refl, sym, ap, _∙_, subst}
+use mathlib.Core.Path.{_≡_, subst}
 use mathlib.Core.List.{List, _∷_}
 use lib.ListN.{length}
 use lib.Ieee.{Float}
@@ -11,10 +12,6 @@ use Rattle.series.specs.declared.Counted.{Counted}
 use borrow.Author.Needs.{needs}
 use Rattle.series.proofs.read_pattern.Statement.{statement}
 use Rattle.series.proofs.read_pattern.Tie as tie
-use Rattle.series.proofs.read_pattern.Reads as reads
-use Rattle.series.proofs.read_pattern.Lts as lts
-use Rattle.fields.proofs.next_field.Reads as next-field-reads
-use Rattle.series.proofs.count_multipliers.Reads as count-multipliers-reads
 
 field : (c : tie.After-known-told) → (fieldsAt (now (c .before .before .before .before .before .args .l)) (c .before .before .before .before .before .args .at) ≡ nameIn (now (c .before .before .before .before .before .args .l)) (c .before .f .given .0 .0) ∷ fieldsAt (now (c .before .before .before .before .before .args .l)) (c .before .f .given .0 .0 .end)) × Fits (now (c .before .before .before .before .before .args .l)) (c .before .f .given .0 .0)
 field c = c .before .before .before .next-field .ensures .taken _ (c .before .f .given .1)
@@ -25,41 +22,32 @@ all-is c = subst (λ (x : Counted). CountedAs (multipliersOf (fieldsAt (now (c .
 no-all : (c : tie.After-known-told3) → multipliersOf (fieldsAt (now (c .before .before .before .before .before .before .before .before .before .args .l)) (c .before .before .before .before .before .f .given .0 .0 .end)) ≡ bad (c .before .all2 .given .0 .0)
 no-all c = subst (λ (x : Counted). CountedAs (multipliersOf (fieldsAt (now (c .before .before .before .before .before .before .before .before .before .args .l)) (c .before .before .before .before .before .f .given .0 .0 .end))) x) (c .before .all2 .given .1) (c .before .before .before .count-multipliers .ensures)
 
--- src/lib.rt:104:9
 next-field-requires : tie.Need-next-field-requires
 next-field-requires c κs = search needs
 
--- src/lib.rt:105:22
 enum-known-f : tie.Need-enum-known-f
 enum-known-f c = search needs
 
--- src/lib.rt:106:39
 enum-told : tie.Need-enum-told
 enum-told c = search needs
 
--- src/lib.rt:106:9
 returns : tie.Need-returns
 unfolding patternOf
 returns c = rw (c .before .before .next-field .ensures .nothing (c .enum-told .given .1))
 
--- src/lib.rt:109:9
 count-multipliers-requires : tie.Need-count-multipliers-requires
 count-multipliers-requires c κs = search needs
 
--- src/lib.rt:111:24
 enum-known-all : tie.Need-enum-known-all
 enum-known-all c = search needs
 
--- src/lib.rt:116:26
 enum-known-all-2 : tie.Need-enum-known-all-2
 enum-known-all-2 c = search needs
 
--- src/lib.rt:101:1
 returns-2 : tie.Need-returns-2
 unfolding patternOf
 returns-2 c = record { values = all-is c .0; whole = rw (field (c .before .before .before .before) .0, all-is c .1); read = all-is c .1; long = all-is c .2; fits = field (c .before .before .before .before) .1 }
 
--- src/lib.rt:101:1
 returns-3 : tie.Need-returns-3
 unfolding patternOf
 returns-3 c = rw (field (c .before .before .before .before) .0, no-all c)

@@ -1,72 +1,53 @@
+-- `series::resolve_demand` meets its contract. Assumes nothing.
 use native.Mathlib.Omega.{arith}
 use lib.ListN.{getD}
-use denote.Ref.{now}
-use mathlib.Core.Path.{_≡_, refl, sym, ap, _∙_}
-use Rattle.scope.specs.Series.{indexOf}
 use Rattle.tables.proofs.HoldLaws.{count-patterns, bound-demands}
-use Rattle.tables.proofs.AfterLaws.{holds-words, sound-words}
+use Rattle.tables.proofs.AfterLaws.{sound-words}
 use Rattle.series.specs.Storing.{noDemand}
 use Rattle.series.proofs.ResolveLaws.{demand-name, demand-sits, demand-set}
 use borrow.Author.Needs.{needs}
 use Rattle.series.proofs.resolve_demand.Statement.{statement}
 use Rattle.series.proofs.resolve_demand.Tie as tie
-use Rattle.series.proofs.resolve_demand.Reads as reads
-use Rattle.series.proofs.resolve_demand.Lts as lts
-use Rattle.series.proofs.pattern_index.Reads as pattern-index-reads
 
--- src/lib.rt:483:33
 mul-row : tie.Need-mul-row
 mul-row c = omega (arith, c .before .before .pre .2, bound-demands (c .before .before .pre .1 .holds), sound-words (c .before .before .pre .1))
 
--- src/lib.rt:483:15
 add-row : tie.Need-add-row
 add-row c = omega (arith, c .before .before .pre .2, bound-demands (c .before .before .pre .1 .holds), sound-words (c .before .before .pre .1))
 
--- src/lib.rt:484:62
 add-pattern-index : tie.Need-add-pattern-index
 add-pattern-index c = omega (arith, c .before .before .before .pre .2, bound-demands (c .before .before .before .pre .1 .holds), sound-words (c .before .before .before .pre .1))
 
--- src/lib.rt:484:56
 mul-pattern-index : tie.Need-mul-pattern-index
 mul-pattern-index c = omega (arith, c .before .before .before .pre .2, bound-demands (c .before .before .before .pre .1 .holds), sound-words (c .before .before .before .pre .1))
 
--- src/lib.rt:484:56
 slice-reshared-read-pattern-index : tie.Need-slice-reshared-read-pattern-index
 slice-reshared-read-pattern-index c = omega (arith, c .before .before .before .pre .2, bound-demands (c .before .before .before .pre .1 .holds), sound-words (c .before .before .before .pre .1))
 
--- src/lib.rt:484:78
 add-pattern-index-2 : tie.Need-add-pattern-index-2
 add-pattern-index-2 c = omega (arith, c .before .before .before .pre .2, bound-demands (c .before .before .before .pre .1 .holds), sound-words (c .before .before .before .pre .1))
 
--- src/lib.rt:484:72
 mul-pattern-index-2 : tie.Need-mul-pattern-index-2
 mul-pattern-index-2 c = omega (arith, c .before .before .before .pre .2, bound-demands (c .before .before .before .pre .1 .holds), sound-words (c .before .before .before .pre .1))
 
--- src/lib.rt:484:72
 slice-reshared-read-pattern-index-2 : tie.Need-slice-reshared-read-pattern-index-2
 slice-reshared-read-pattern-index-2 c = omega (arith, c .before .before .before .pre .2, bound-demands (c .before .before .before .pre .1 .holds), sound-words (c .before .before .before .pre .1))
 
--- src/lib.rt:484:9
 pattern-index-requires : tie.Need-pattern-index-requires
 pattern-index-requires c κs = (c .before .before .before .pre .1 .m, c .before .before .before .pre .1 .holds .words, count-patterns (c .before .before .before .pre .1 .holds))
 
--- src/lib.rt:485:11
 add-words : tie.Need-add-words
 add-words c = omega (arith, c .before .before .before .before .pre .2, bound-demands (c .before .before .before .before .pre .1 .holds), sound-words (c .before .before .before .before .pre .1))
 
--- src/lib.rt:485:5
 mul-words : tie.Need-mul-words
 mul-words c = omega (arith, c .before .before .before .before .pre .2, bound-demands (c .before .before .before .before .pre .1 .holds), sound-words (c .before .before .before .before .pre .1))
 
--- src/lib.rt:485:5
 slice-write-words : tie.Need-slice-write-words
 slice-write-words c = omega (arith, c .before .before .before .before .pre .2, bound-demands (c .before .before .before .before .pre .1 .holds), sound-words (c .before .before .before .before .pre .1))
 
--- src/lib.rt:478:1
 same-length : tie.Need-same-length
 same-length c = search needs
 
--- src/lib.rt:478:1
 returns : tie.Need-returns
 returns c =
     λ m f h. demand-set h (c .before .before .before .before .args .k) (c .before .before .before .before .pre .2) _ (omega (arith, c .before .before .before .before .pre .2, bound-demands (c .before .before .before .before .pre .1 .holds), sound-words (c .before .before .before .before .pre .1)))

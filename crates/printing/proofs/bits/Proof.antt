@@ -1,0 +1,53 @@
+use mathlib.Core.Path.{_≡_}
+use mathlib.Core.Bool.{false, not, true≢false}
+use lib.Dec.{T}
+use lib.Ieee.{Float, nan, inf, fin, isNan, ne}
+use borrow.Author.Needs.{needs}
+use Rattle.printing.proofs.bits.Statement.{statement}
+use Rattle.printing.proofs.bits.Tie as tie
+use Rattle.printing.proofs.bits.Reads as reads
+use Rattle.printing.proofs.bits.Lts as lts
+use Rattle.io.proofs.print_hex.Reads as print-hex-reads
+use Rattle.printing.proofs.write.Reads as write-reads
+
+-- a number that equals itself is no NaN
+equals-itself : (x : Float) → ne x x ≡ false → T (not (isNan x))
+unfolding ne isNan
+equals-itself nan h = absurd (true≢false h)
+equals-itself (inf s) h = tt
+equals-itself (fin s m e) h = tt
+
+-- src/lib.rt:31:15
+slice-aggregate-write : tie.Need-slice-aggregate-write
+slice-aggregate-write c = search needs
+
+-- src/lib.rt:31:9
+write-requires : tie.Need-write-requires
+write-requires c κs = search needs
+
+-- src/lib.rt:32:9
+returns : tie.Need-returns
+returns c = search needs
+
+-- src/lib.rt:34:34
+float-to-bits-print-hex : tie.Need-float-to-bits-print-hex
+float-to-bits-print-hex c = equals-itself _ (c .if1 .left)
+
+-- src/lib.rt:34:5
+print-hex-requires : tie.Need-print-hex-requires
+print-hex-requires c κs = search needs
+
+-- src/lib.rt:29:1
+returns-2 : tie.Need-returns-2
+returns-2 c = search needs
+
+pub bits-spec : {M : Type 1} → statement M
+bits-spec =
+    tie.close
+    (tie.spec
+    slice-aggregate-write
+    write-requires
+    returns
+    float-to-bits-print-hex
+    print-hex-requires
+    returns-2)

@@ -1,0 +1,56 @@
+use Prim.Native.Nat.{_-_, _≤_}
+use borrow.Author.Needs.{needs}
+use lib.ListN.{length}
+use Rattle.printing.proofs.letters.Statement.{statement}
+use Rattle.printing.proofs.letters.Tie as tie
+use Rattle.printing.proofs.letters.Reads as reads
+use Rattle.printing.proofs.letters.Lts as lts
+use Rattle.printing.proofs.letter.Reads as letter-reads
+
+abbrev Inv-loop : tie.InvT-loop
+Inv-loop name i₀ i = i ≤ length name
+
+abbrev μ-loop : tie.MeasureT-loop
+μ-loop name i₀ i = length name - i
+
+-- src/lib.rt:68:5
+loop-holds : tie.Need-loop-holds Inv-loop μ-loop
+loop-holds c = search needs
+
+-- src/lib.rt:69:16
+shared-slice-read-letter : tie.Need-shared-slice-read-letter Inv-loop μ-loop
+shared-slice-read-letter c = search needs
+
+-- src/lib.rt:69:9
+letter-requires : tie.Need-letter-requires Inv-loop μ-loop
+letter-requires c κs = search needs
+
+-- src/lib.rt:70:9
+add-i : tie.Need-add-i Inv-loop μ-loop
+add-i c = search needs
+
+-- src/lib.rt:68:5
+loop-less : tie.Need-loop-less Inv-loop μ-loop
+loop-less c = search needs
+
+-- src/lib.rt:68:5
+loop-again : tie.Need-loop-again Inv-loop μ-loop
+loop-again c = search needs
+
+-- src/lib.rt:66:1
+returns : tie.Need-returns Inv-loop μ-loop
+returns c = search needs
+
+pub letters-spec : {M : Type 1} → statement M
+letters-spec =
+    tie.close
+    (tie.spec
+    Inv-loop
+    μ-loop
+    loop-holds
+    shared-slice-read-letter
+    letter-requires
+    add-i
+    loop-less
+    loop-again
+    returns)

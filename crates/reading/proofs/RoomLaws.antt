@@ -1,0 +1,97 @@
+-- Tables that are longer than their room: the counts after the records, and what lies beyond as it was. Assumes nothing.
+use Prim.Native.Nat.{ℕ, _+_, _≤_}
+use native.Mathlib.Omega.{arith}
+use borrow.Author.Tests.{ltb-false}
+use mathlib.Core.Path.{_≡_, refl, sym, ap, ap₂, _∙_}
+use mathlib.Core.Bool.{Bool, true, false, _||_}
+use mathlib.Core.List.{List, _++_}
+use lib.ListN.{length, drop, length-append, length-drop}
+use lib.Seq.{take-at, drop-at, drop-drop}
+use lib.Dec.{ltb}
+use lib.Ieee.{Float}
+use Rattle.lines.specs.Tables.{codeOf, reasonIn, marksIn}
+use Rattle.scope.specs.declared.Counts.{Counts}
+use Rattle.scope.specs.declared.Answer.{Answer}
+use Rattle.scope.specs.declared.Survey.{Survey}
+use Rattle.scope.specs.Sections.{roomLines}
+use Rattle.scope.specs.Records.{Network}
+use Rattle.scope.specs.Tables.{recordWords, roomWords, roomNumbers, tallyWords, wordsOf, numbersOf}
+use Rattle.scope.specs.Reading.{byText, says, told, strictOf, noSurvey, surveyOf, strictNetwork, surveyNetwork, surveyMarked, tooSmall, surveySmall, wordsHolding, numbersHolding, strictAnswer, strictWords, strictNumbers, surveyAnswer, surveyWords, surveyNumbers, surveyClasses, surveyReasons}
+use Rattle.tables.specs.Table.{splice}
+use Rattle.tables.specs.Holding.{Holds}
+use Rattle.tables.proofs.AfterLaws.{holds-words}
+use Rattle.reading.proofs.StepLaws.{never}
+
+-- ---- room
+pub room : (w f : ℕ) → tooSmall w f ≡ false → (roomWords ≤ w) × (roomNumbers ≤ f)
+unfolding tooSmall
+room w f z = let p = go (ltb w roomWords) (ltb f roomNumbers) z in (ltb-false w roomWords (p .0), ltb-false f roomNumbers (p .1))
+  where
+    go : (x y : Bool) → x || y ≡ false → (x ≡ false) × (y ≡ false)
+    go true y e = never (sym e)
+    go false y e = (refl, e)
+
+pub survey-room : (w f c r : ℕ) → surveySmall w f c r ≡ false → (tooSmall w f ≡ false) × (roomLines ≤ c) × (roomLines ≤ r)
+unfolding surveySmall
+survey-room w f c r z = let p = go (tooSmall w f) (ltb c roomLines) (ltb r roomLines) z in (p .0, ltb-false c roomLines (p .1), ltb-false r roomLines (p .2))
+  where
+    go : (x y v : Bool) → x || y || v ≡ false → (x ≡ false) × (y ≡ false) × (v ≡ false)
+    go true y v e = never (sym e)
+    go false true v e = never (sym e)
+    go false false v e = (refl, refl, e)
+
+-- a part that comes back leaves the table as long as it was
+pub back-long : {A : Type 0} (x w : List A) (n : ℕ) → length x ≡ n → n ≤ length w → length (x ++ drop n w) ≡ length w
+back-long x w n e h = omega (arith, length-append x (drop n w), length-drop n w)
+
+-- ---- the counts after the records
+paste-at : (w x rec : List ℕ) (n k : ℕ) → length x ≡ n → length rec ≡ k → splice (x ++ drop n w) n rec ≡ (x ++ rec) ++ drop (n + k) w
+paste-at w x rec n k ex er =
+    let d : drop (n + length rec) (x ++ drop n w) ≡ drop (n + k) w =
+    ap (λ i. drop (n + i) (x ++ drop n w)) er ∙ sym (drop-drop k n (x ++ drop n w)) ∙ ap (drop k) (drop-at x (drop n w) n ex) ∙ drop-drop k n w in
+    ap₂ (λ (y z : List ℕ). (y ++ rec) ++ z) (take-at x (drop n w) n ex) d
+
+module _ {text : List ℕ} {m : Network} {c : Counts} {x : List ℕ} {y : List Float} (h : Holds text m c x y) where
+  pub words-left : (w : List ℕ) {w′ : List ℕ} → w′ ≡ splice (x ++ drop recordWords w) recordWords (tallyWords c) → w′ ≡ wordsHolding m w
+  unfolding wordsOf
+  words-left w e =
+      e ∙ paste-at w x (tallyWords c) recordWords 9 (holds-words h) refl
+      ∙ ap₂ (λ (v : List ℕ) (t : Counts). (v ++ tallyWords t) ++ drop roomWords w) (h .words .exact) (h .counts)
+
+  pub numbers-left : (f : List Float) {f′ : List Float} → f′ ≡ y ++ drop roomNumbers f → f′ ≡ numbersHolding m f
+  unfolding numbersOf
+  numbers-left f e = e ∙ ap (λ (v : List Float). v ++ drop roomNumbers f) (h .numbers .exact)
+
+-- ---- the ways through `read_strict`
+module _ (text w : List ℕ) (f : List Float) where
+  abbrev pub Read : Answer → List ℕ → List Float → Type 0
+  Read a w′ f′ = (a ≡ strictAnswer text (length w) (length f)) × (w′ ≡ strictWords text w (length f)) × (f′ ≡ strictNumbers text (length w) f)
+
+  pub strict-small : {a : Answer} → tooSmall (length w) (length f) ≡ true → a ≡ says 28 0 → Read a w f
+  unfolding strictAnswer strictWords strictNumbers
+  strict-small z e = rw z (e, refl, refl)
+
+  pub strict-read : {a : Answer} {c : Counts} {x w′ : List ℕ} {y f′ : List Float} → tooSmall (length w) (length f) ≡ false
+      → a ≡ byText text (says 20 0) (says 21 0) (told (strictOf text)) → Holds text (strictNetwork text) c x y
+      → w′ ≡ splice (x ++ drop recordWords w) recordWords (tallyWords c) → f′ ≡ y ++ drop roomNumbers f → Read a w′ f′
+  unfolding strictAnswer strictWords strictNumbers
+  strict-read z ea hd ew ef = rw z (ea, words-left hd w ew, numbers-left hd f ef)
+
+-- ---- the ways through `read_survey`
+module _ (text w : List ℕ) (f : List Float) (c r : List ℕ) where
+  abbrev pub Seen : Survey → List ℕ → List Float → List ℕ → List ℕ → Type 0
+  Seen a w′ f′ c′ r′ =
+      (a ≡ surveyAnswer text w f c r) × (w′ ≡ surveyWords text w f c r) × (f′ ≡ surveyNumbers text w f c r) × (c′ ≡ surveyClasses text w f c r) × (r′ ≡ surveyReasons text w f c r)
+
+  pub survey-small : {a : Survey} → surveySmall (length w) (length f) (length c) (length r) ≡ true → a ≡ noSurvey 28 → Seen a w f c r
+  unfolding surveyAnswer surveyWords surveyNumbers surveyClasses surveyReasons
+  survey-small z e = rw z (e, refl, refl, refl, refl)
+
+  pub survey-read : {a : Survey} {n : Counts} {x w′ c′ r′ cs rs : List ℕ} {y f′ : List Float} → surveySmall (length w) (length f) (length c) (length r) ≡ false
+      → a ≡ byText text (noSurvey 20) (noSurvey 21) (surveyOf text) → Holds text (surveyNetwork text) n x y
+      → cs ≡ marksIn codeOf roomLines (surveyMarked text) → rs ≡ marksIn reasonIn roomLines (surveyMarked text)
+      → w′ ≡ splice (x ++ drop recordWords w) recordWords (tallyWords n) → f′ ≡ y ++ drop roomNumbers f → c′ ≡ cs ++ drop roomLines c → r′ ≡ rs ++ drop roomLines r
+      → Seen a w′ f′ c′ r′
+  unfolding surveyAnswer surveyWords surveyNumbers surveyClasses surveyReasons
+  survey-read z ea hd zc zr ew ef ec er =
+      rw z (ea, words-left hd w ew, numbers-left hd f ef, ec ∙ ap (λ (v : List ℕ). v ++ drop roomLines c) zc, er ∙ ap (λ (v : List ℕ). v ++ drop roomLines r) zr)

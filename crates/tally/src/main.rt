@@ -1,0 +1,123 @@
+// Surveys a text and prints how much of it was read: the records, the conditions and actions, the lines by class, and every refusal.
+use input::Input;
+use printing::count;
+use printing::newline;
+use printing::one_if;
+use printing::records;
+use printing::word;
+use printing::write;
+use scope::Survey;
+
+const ROOM_WORDS: usize = 14421;
+
+const ROOM_NUMBERS: usize = 8192;
+
+const ROOM_LINES: usize = 65536;
+
+// One byte more than is read, so that a longer text is seen to be longer.
+const ROOM_TEXT: usize = 65537;
+
+// Clauses of a kind: 1 is a condition, 2 an action.
+fn clauses(words: &[u64], kind: u64) -> u64 {
+    let all = records(words, 8);
+    let mut n = 0;
+    let mut k = 0;
+    while k < all {
+        n += one_if(word(words, printing::clause_row(k), 0) == kind);
+        k += 1;
+    }
+    n
+}
+
+fn show_records(words: &[u64]) {
+    write(b"records");
+    count(records(words, 0) as u64);
+    count(records(words, 1) as u64);
+    count(records(words, 2) as u64);
+    count(records(words, 4) as u64);
+    count(records(words, 7) as u64);
+    write(b"\nclauses");
+    count(clauses(words, 1));
+    count(clauses(words, 2));
+    newline();
+}
+
+fn show_lines(s: Survey) {
+    write(b"lines");
+    count(s.lines as u64);
+    count(s.blank as u64);
+    count(s.header as u64);
+    count(s.passed as u64);
+    count(s.taken as u64);
+    count(s.refused as u64);
+    count(s.ruletaken as u64);
+    count(s.rulerefused as u64);
+    count(s.ruleopen as u64);
+    newline();
+}
+
+fn show_refusal(line: usize, reason: u8) {
+    write(b"refused");
+    count(line as u64);
+    count(reason as u64);
+    newline();
+}
+
+fn show_refusals(reasons: &[u8]) {
+    let mut i = 0;
+    while i < reasons.len() {
+        if reasons[i] != 0 {
+            show_refusal(i + 1, reasons[i]);
+        }
+        i += 1;
+    }
+}
+
+// What the survey says of the text: in counts, or in words.
+fn show(text: &[u8], in_words: bool) {
+    let mut words = [0u64; ROOM_WORDS];
+    let mut numbers = [0.0f64; ROOM_NUMBERS];
+    let mut classes = [0u8; ROOM_LINES];
+    let mut reasons = [0u8; ROOM_LINES];
+    let s = reading::read_survey(text, &mut words, &mut numbers, &mut classes, &mut reasons);
+    if in_words {
+        explain::show_survey(text, s, &classes, &reasons);
+        return;
+    }
+    if s.number != 0 {
+        show_refusal(0, s.number);
+        return;
+    }
+    show_records(&words);
+    show_lines(s);
+    show_refusals(&reasons);
+}
+
+fn show_help() {
+    write(
+        b"tally [FILE]             survey an EPANET input file: records, lines by class, refusals\n",
+    );
+    write(b"tally --explain [FILE]   say in words what is refused, and why\n");
+    write(b"Without FILE it reads standard input.\n");
+}
+
+// Argument `file` names the file.
+fn run(file: usize, in_words: bool) {
+    let mut buffer = [0u8; ROOM_TEXT];
+    let read = input::read_argument(b"tally", file, &mut buffer);
+    if let Input::Read(n) = read {
+        show(fields::cut(&buffer, 0, n), in_words);
+    }
+}
+
+fn main() {
+    if input::argument_is(1, b"--help") {
+        show_help();
+        return;
+    }
+    if input::argument_is(1, b"--explain") {
+        run(2, true);
+        return;
+    }
+    run(1, false);
+}
