@@ -1,4 +1,5 @@
--- Document 01 as definitions, a file for each of its headings and in its order. "Records by section" is long and has a file for each family.
+-- Document 01 as definitions, a file for each of its headings, in its order but for "Lines and groups", which stands after the records that its lines store.
+-- "Records by section" is long and has a file for each family.
 pub mod Spelling
 -- Sections read and sections passed over
 pub mod Sections
