@@ -4,7 +4,6 @@
 use fields::Span;
 use printing::count;
 use printing::newline;
-use printing::one_if;
 use printing::records;
 use printing::word;
 use printing::write;
@@ -13,18 +12,6 @@ const ROOM_WORDS: usize = 14421;
 
 const ROOM_NUMBERS: usize = 8192;
 
-// Clauses of a kind: 1 is a condition, 2 an action.
-fn clauses(words: &[u64], kind: u64) -> u64 {
-    let all = records(words, 8);
-    let mut n = 0;
-    let mut k = 0;
-    while k < all {
-        n += one_if(word(words, printing::clause_row(k), 0) == kind);
-        k += 1;
-    }
-    n
-}
-
 fn show_records(words: &[u64]) {
     write(b"records");
     count(records(words, 0) as u64);
@@ -32,8 +19,8 @@ fn show_records(words: &[u64]) {
     count(records(words, 2) as u64);
     count(records(words, 4) as u64);
     count(records(words, 7) as u64);
-    count(clauses(words, 1));
-    count(clauses(words, 2));
+    count(printing::clauses(words, 1));
+    count(printing::clauses(words, 2));
     newline();
 }
 

@@ -5,10 +5,9 @@ use lib.ListN.{getD}
 use mathlib.Core.List.{List, [], _∷_}
 use mathlib.Core.Option.{Option, none, some}
 use Rattle.fields.specs.Fields.{Name, fieldsAt, nameIn, Fits}
+pub use Rattle.fields.specs.Fields.{optIn, MayFit}
 use Rattle.fields.specs.Words.{same}
 use Rattle.fields.specs.declared.Span.{Span}
-use Rattle.fields.specs.declared.Field.{Field}
-use Rattle.fields.specs.declared.Field.the-variants.{Taken, Nothing}
 use Rattle.scope.specs.declared.Reason.{Reason}
 use Rattle.scope.specs.declared.Reason.the-variants.{Missing}
 use Rattle.scope.specs.declared.Reason.the-variants as reason
@@ -44,15 +43,6 @@ use Rattle.clauses.specs.declared.KindRead.{KindRead}
 use Rattle.clauses.specs.declared.KindRead.the-variants as kind
 use Rattle.clauses.specs.declared.RuleWord.{RuleWord}
 use Rattle.clauses.specs.declared.RuleWord.the-variants.{Rule, If, Or, Then, And, Else, Priority, Unknown}
-
--- a field that may be there, as a name of l; it lies in l
-abbrev pub optIn : List ℕ → Field → Option Name
-optIn l (Taken s) = some (nameIn l s)
-optIn l Nothing = none
-
-abbrev pub MayFit : List ℕ → Field → Type 0
-MayFit l (Taken s) = Fits l s
-MayFit l Nothing = Unit
 
 -- ---- targets
 abbrev pub attributeRead : AttributeRead → Option Target

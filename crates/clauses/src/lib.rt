@@ -364,7 +364,7 @@ fn condition_on(l: &[u8], aim: Aim, operator: Operator) -> ConditionRead
 }
 
 // The condition after a line's first word.
-pub fn read_condition(l: &[u8], at: usize, operator: Operator) -> ConditionRead
+pub fn read_rule_condition(l: &[u8], at: usize, operator: Operator) -> ConditionRead
     ensures { λ r. ⌜ conditionRead (now (l .entry)) r ≡ conditionOf operator (fieldsAt (now (l .entry)) at) ⌝ }
     ensures { λ r. ⌜ ConditionFits (now (l .entry)) r ⌝ }
 {

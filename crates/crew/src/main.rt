@@ -1,11 +1,12 @@
-// The crew sheet: how often the rules close and open links, by rule and by link, under THEN and under ELSE. What is refused is said first.
+// The crew sheet: how often the rules close, open, activate and set links, by rule and by link, under THEN and under ELSE. What is refused is said first.
+ghost use Prim.Native.Nat.{_≤_};
 use input::Input;
+use moves::Moves;
 use printing::decimal;
 use printing::newline;
 use printing::one_if;
-use printing::records;
-use printing::word;
 use printing::write;
+use scope::Survey;
 
 const ROOM_WORDS: usize = 14421;
 
@@ -16,136 +17,252 @@ const ROOM_LINES: usize = 65536;
 // One byte more than is read, so that a longer text is seen to be longer.
 const ROOM_TEXT: usize = 65537;
 
-// Whose actions are counted.
-enum Of {
-    Rule(usize),
-    Link(usize),
-    All,
-}
+// ---- whether the sheet is whole
 
-fn is_of_rule(words: &[u64], rule: usize, k: usize) -> bool {
-    let row = printing::rule_row(rule);
-    let first = word(words, row, 3);
-    if (k as u64) < first {
-        return false;
-    }
-    k as u64 - first < word(words, row, 4)
-}
-
-fn is_of(of: Of, words: &[u64], k: usize) -> bool {
-    match of {
-        Of::Rule(i) => is_of_rule(words, i, k),
-        Of::Link(i) => word(words, printing::clause_row(k), 2) == i as u64,
-        Of::All => true,
-    }
-}
-
-// Whether clause `k` is an action that gives the status, under THEN (0) or ELSE (1).
-fn gives(words: &[u64], k: usize, otherwise: u64, status: u64) -> bool {
-    let row = printing::clause_row(k);
-    if word(words, row, 0) != 2 {
-        return false;
-    }
-    if word(words, row, 1) != otherwise {
-        return false;
-    }
-    word(words, row, 4) == status
-}
-
-fn is_counted(of: Of, words: &[u64], k: usize, otherwise: u64, status: u64) -> bool {
-    if is_of(of, words, k) {
-        return gives(words, k, otherwise, status);
-    }
-    false
-}
-
-fn actions(of: Of, words: &[u64], otherwise: u64, status: u64) -> u64 {
-    let all = records(words, 8);
+// A refused line has a reason, and so has the first line of a refused rule.
+fn refused(reasons: &[u8; ROOM_LINES]) -> u64
+    ensures { λ r. ⌜ r ≤ 65536 ⌝ }
+{
     let mut n = 0;
-    let mut k = 0;
-    while k < all {
-        n += one_if(is_counted(of, words, k, otherwise, status));
-        k += 1;
+    for i in 0..ROOM_LINES {
+        n += one_if(reasons[i] != 0);
     }
     n
 }
 
-// Closings and openings; status 0 is a setting.
-fn show_branch(of: Of, words: &[u64], otherwise: u64) {
-    write(b" closes ");
-    decimal(actions(of, words, otherwise, 2));
-    write(b", opens ");
-    decimal(actions(of, words, otherwise, 1));
-    write(b", sets ");
-    decimal(actions(of, words, otherwise, 0));
+// The lines and rules that are refused, and the rule that is open at the end.
+fn missing_pieces(s: Survey, reasons: &[u8; ROOM_LINES]) -> u64 {
+    refused(reasons) + one_if(s.ruleopen != 0)
 }
 
-fn show_actions(of: Of, words: &[u64]) {
-    write(b": THEN");
-    show_branch(of, words, 0);
-    write(b"; ELSE");
-    show_branch(of, words, 1);
+fn warn(missing: u64) {
+    if missing != 0 {
+        write(b"NOT WHOLE: ");
+        decimal(missing);
+        write(b" REFUSED OR STILL OPEN. DO NOT PRICE FROM THIS SHEET.\n");
+    }
+}
+
+// ---- columns
+
+// A count at the right of a column of ten letters.
+fn column(n: usize) {
+    write(b"      ");
+    if n < 1000 {
+        write(b" ");
+    }
+    if n < 100 {
+        write(b" ");
+    }
+    if n < 10 {
+        write(b" ");
+    }
+    decimal(n as u64);
+}
+
+fn columns(n: Moves) {
+    column(n.closes);
+    column(n.opens);
+    column(n.activates);
+    column(n.sets);
+}
+
+fn row(then: Moves, otherwise: Moves) {
+    columns(then);
+    write(b" |");
+    columns(otherwise);
+}
+
+fn heading(of: &[u8]) {
+    newline();
+    write(of);
+    write(b"\n      THEN                               |      ELSE\n");
+    write(b"    closes     opens activates      sets |    closes     opens activates      sets\n");
+}
+
+// ---- by rule
+
+// The number of the line that has the byte at `at`.
+fn line_of(text: &[u8], at: usize) -> u64 {
+    let before = fields::cut(text, 0, at);
+    let mut n = 0;
+    let mut k = 0;
+    while k < before.len() {
+        n += one_if(before[k] == b'\n');
+        k += 1;
+    }
+    n + 1
+}
+
+fn show_rule(text: &[u8], words: &[u64], numbers: &[f64], i: usize) {
+    row(
+        moves::rule_moves(words, numbers, i, false),
+        moves::rule_moves(words, numbers, i, true),
+    );
+    let rule = stored::rule_at(words, i);
+    let id = rule.id;
+    write(b"  rule ");
+    printing::plain(fields::letters_of(text, id));
+    write(b", which starts at line ");
+    decimal(line_of(text, id.at));
     newline();
 }
 
-fn show_name(text: &[u8], words: &[u64], row: usize) {
-    let at = word(words, row, 0) as usize;
-    let long = word(words, row, 1) as usize;
-    printing::plain(fields::cut(text, at, long));
-}
-
-fn show_rule(text: &[u8], words: &[u64], i: usize) {
-    write(b"rule ");
-    show_name(text, words, printing::rule_row(i));
-    show_actions(Of::Rule(i), words);
-}
-
-fn show_link(text: &[u8], words: &[u64], i: usize) {
-    write(b"link ");
-    show_name(text, words, printing::link_row(i));
-    show_actions(Of::Link(i), words);
-}
-
-fn show_rules(text: &[u8], words: &[u64]) {
-    let all = records(words, 7);
+fn show_rules(text: &[u8], words: &[u64], numbers: &[f64]) {
+    let counts = stored::counts_at(words);
+    let all = counts.rules;
     let mut i = 0;
     while i < all {
-        show_rule(text, words, i);
+        show_rule(text, words, numbers, i);
         i += 1;
     }
 }
 
-fn show_links(text: &[u8], words: &[u64]) {
-    let all = records(words, 1);
-    let mut i = 0;
-    while i < all {
-        show_link(text, words, i);
-        i += 1;
+// ---- by link
+
+fn is_none(n: Moves) -> bool {
+    if n.closes != 0 {
+        return false;
     }
+    if n.opens != 0 {
+        return false;
+    }
+    if n.activates != 0 {
+        return false;
+    }
+    n.sets == 0
 }
 
-fn show_sheet(text: &[u8], words: &[u64]) {
-    show_rules(text, words);
-    show_links(text, words);
-    write(b"all");
-    show_actions(Of::All, words);
+fn has_no_action(words: &[u64], numbers: &[f64], i: usize) -> bool {
+    if is_none(moves::link_moves(words, numbers, i, false)) {
+        return is_none(moves::link_moves(words, numbers, i, true));
+    }
+    false
 }
+
+fn show_moved(text: &[u8], words: &[u64], numbers: &[f64], i: usize) {
+    row(
+        moves::link_moves(words, numbers, i, false),
+        moves::link_moves(words, numbers, i, true),
+    );
+    let link = stored::link_at(words, numbers, i);
+    let id = link.id;
+    write(b"  link ");
+    printing::plain(fields::letters_of(text, id));
+    write(b", moves of a crew: ");
+    decimal(moves::link_made(words, numbers, i) as u64);
+    newline();
+}
+
+// What a link adds to the links that are left out.
+fn show_link(text: &[u8], words: &[u64], numbers: &[f64], i: usize) -> u64
+    ensures { λ r. ⌜ r ≤ 1 ⌝ }
+{
+    if has_no_action(words, numbers, i) {
+        return 1;
+    }
+    show_moved(text, words, numbers, i);
+    0
+}
+
+// How many are left out.
+fn show_links(text: &[u8], words: &[u64], numbers: &[f64]) -> u64 {
+    let counts = stored::counts_at(words);
+    let all = counts.links;
+    let mut left = 0;
+    let mut i = 0;
+    while i < all {
+        left += show_link(text, words, numbers, i);
+        i += 1;
+    }
+    left
+}
+
+// ---- all rules
+
+fn show_sums(words: &[u64], numbers: &[f64]) {
+    let then = moves::all_moves(words, numbers, false);
+    let otherwise = moves::all_moves(words, numbers, true);
+    let closes = then.closes + otherwise.closes;
+    let opens = then.opens + otherwise.opens;
+    let activates = then.activates + otherwise.activates;
+    let sets = then.sets + otherwise.sets;
+    row(then, otherwise);
+    write(b"  all rules\nTHEN and ELSE together: closes ");
+    decimal(closes as u64);
+    write(b", opens ");
+    decimal(opens as u64);
+    write(b", activates ");
+    decimal(activates as u64);
+    write(b", sets ");
+    decimal(sets as u64);
+    newline();
+}
+
+fn show_made(words: &[u64], numbers: &[f64]) {
+    write(b"Moves of a crew that opens every closure again: ");
+    decimal(moves::all_made(words, numbers) as u64);
+    newline();
+    write(
+        b"    At each link its closings, and its openings or as many as its closings, whichever are more.\n",
+    );
+    write(b"    What activates and sets is not among them.\n");
+}
+
+fn show_sheet(text: &[u8], words: &[u64], numbers: &[f64]) {
+    heading(b"BY RULE");
+    show_rules(text, words, numbers);
+    heading(b"BY LINK");
+    let left = show_links(text, words, numbers);
+    write(b"Links that no rule moves, left out: ");
+    decimal(left);
+    newline();
+    heading(b"IN ALL");
+    show_sums(words, numbers);
+    show_made(words, numbers);
+}
+
+fn show_warned(text: &[u8], words: &[u64], numbers: &[f64], missing: u64) {
+    warn(missing);
+    show_sheet(text, words, numbers);
+    warn(missing);
+}
+
+// ---- the program
 
 fn show(text: &[u8]) {
     let mut words = [0u64; ROOM_WORDS];
     let mut numbers = [0.0f64; ROOM_NUMBERS];
     let mut classes = [0u8; ROOM_LINES];
     let mut reasons = [0u8; ROOM_LINES];
-    let s = reading::read_survey(text, &mut words, &mut numbers, &mut classes, &mut reasons);
+    let s = surveying::read_survey(text, &mut words, &mut numbers, &mut classes, &mut reasons);
     explain::show_survey(text, s, &classes, &reasons);
     if s.number == 0 {
-        show_sheet(text, &words);
+        let missing = missing_pieces(s, &reasons);
+        show_warned(text, &words, &numbers, missing);
     }
 }
 
 fn show_help() {
-    write(b"crew [FILE]   how often the rules of an EPANET input file close, open and set links\n");
-    write(b"Without FILE it reads standard input.\n");
+    write(
+        b"crew [FILE]   the crew sheet of an EPANET input file: how often its rules move links\n",
+    );
+    write(b"Without FILE it reads standard input. The sheet shows\n");
+    write(
+        b"- each line and each rule that is refused, and why. Where one is, the sheet is not whole:\n",
+    );
+    write(
+        b"  moves are missing from it, and it says so in capitals before and after the counts;\n",
+    );
+    write(
+        b"- for each rule, with the line that it starts at, and for each link: how many of its actions\n",
+    );
+    write(
+        b"  close, open, activate (status CLOSED, OPEN, ACTIVE) and set (a setting), under THEN and under ELSE;\n",
+    );
+    write(
+        b"- the same for all rules, and the moves that a crew makes when every closure is opened again.\n",
+    );
 }
 
 fn run() {

@@ -21,38 +21,36 @@ pub enum Number {
     Beyond,
 }
 
-// 10^0 to 10^22: each is a double exactly.
-const TENS: [f64; 23] = [
-    1.0,
-    1e1,
-    1e2,
-    1e3,
-    1e4,
-    1e5,
-    1e6,
-    1e7,
-    1e8,
-    1e9,
-    1e10,
-    1e11,
-    1e12,
-    1e13,
-    1e14,
-    1e15,
-    1e16,
-    1e17,
-    1e18,
-    1e19,
-    1e20,
-    1e21,
-    1e22,
-];
-
+// 10^0 to 10^22: each is a double exactly. A match, and no table: a table would be laid out anew at each number.
 fn power_of_ten(k: usize) -> f64
     requires { ⌜ k < 23 ⌝ }
     ensures { λ r. ⌜ r ≡ ten k ⌝ }
 {
-    TENS[k]
+    match k {
+        0 => 1.0,
+        1 => 1e1,
+        2 => 1e2,
+        3 => 1e3,
+        4 => 1e4,
+        5 => 1e5,
+        6 => 1e6,
+        7 => 1e7,
+        8 => 1e8,
+        9 => 1e9,
+        10 => 1e10,
+        11 => 1e11,
+        12 => 1e12,
+        13 => 1e13,
+        14 => 1e14,
+        15 => 1e15,
+        16 => 1e16,
+        17 => 1e17,
+        18 => 1e18,
+        19 => 1e19,
+        20 => 1e20,
+        21 => 1e21,
+        _ => 1e22,
+    }
 }
 
 fn with_sign(minus: bool, x: f64) -> f64

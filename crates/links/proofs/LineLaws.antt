@@ -12,12 +12,12 @@ use Rattle.scope.specs.Values.{good, bad}
 use Rattle.scope.specs.Links.{Ends, endsOf, addLink, noPump, pumpFrom, pumpStep}
 use Rattle.takers.specs.Taking.{MayFit}
 use Rattle.takers.proofs.TextLaws.{name-text, opt-text}
-use Rattle.links.specs.Lines.{NamesFit, pumpIn, kindIn, KindFits, lineIn}
-use Rattle.links.specs.declared.Pump.{Pump}
-use Rattle.links.specs.declared.LinkKind.{LinkKind}
-use Rattle.links.specs.declared.LinkKind.the-variants.{PipeKind, PumpKind, ValveKind}
-use Rattle.links.specs.declared.LinkNames.{LinkNames}
-use Rattle.links.specs.declared.LinkLine.{LinkLine}
+use Rattle.linklines.specs.Lines.{NamesFit, pumpIn, kindIn, KindFits, lineIn}
+use Rattle.linklines.specs.declared.Pump.{Pump}
+use Rattle.linklines.specs.declared.LinkKind.{LinkKind}
+use Rattle.linklines.specs.declared.LinkKind.the-variants.{PipeKind, PumpKind, ValveKind}
+use Rattle.linklines.specs.declared.LinkNames.{LinkNames}
+use Rattle.linklines.specs.declared.LinkLine.{LinkLine}
 
 -- a line is the text up to its end
 module _ (text : List ℕ) (end : ℕ) where

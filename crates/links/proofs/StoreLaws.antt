@@ -8,8 +8,6 @@ use mathlib.Core.Option.{Option, none, some}
 use lib.ListN.{length, getD, length-append}
 use lib.Ieee.{Float}
 use Rattle.fields.specs.Fields.{Name}
-use Rattle.fields.specs.declared.Field.{Field}
-use Rattle.fields.specs.declared.Field.the-variants.{Taken, Nothing}
 use Rattle.scope.specs.declared.Reason.the-variants.{Used, NotFound, Full}
 use Rattle.scope.specs.declared.Found.{Found}
 use Rattle.scope.specs.declared.Found.the-variants.{At, Nowhere}
@@ -18,23 +16,16 @@ use Rattle.scope.specs.Records.{Network, Link, LinkKind, pipe, pump, valve, loo
 use Rattle.scope.specs.Values.{Read, good, bad}
 use Rattle.scope.specs.Links.{Ends, endsOf, addLink, LinkFields, storeLink}
 use Rattle.scope.specs.Tables.{idWords, nameWords, typeNo, linkKindWords, linkWords, linkNumbers}
-use Rattle.takers.specs.Taking as taken
 use Rattle.tables.specs.Table.{splice}
 use Rattle.tables.specs.Layout.{linksAt, linkSize, linkNumbersAt, linkNumbersSize}
 use Rattle.tables.specs.Holding.{Sits, Holds, After}
-use Rattle.tables.specs.Holding as tables
 use Rattle.tables.specs.declared.Kept.the-variants.{Stored, Refused}
 use Rattle.tables.proofs.HoldLaws.{add-link, count-links}
 use Rattle.links.specs.Storing.{endsAt, EndsAs}
 use Rattle.links.specs.declared.EndsFound.{EndsFound}
 
 -- ---- the words of a link, one by one
--- (the tables and the takers read a field that may be missing in the same way)
-pub two-words : (l : List ℕ) (f : Field) {c : List ℕ} → c ≡ nameWords (tables.optIn l f) → getD c 0 0 ∷ getD c 1 0 ∷ [] ≡ nameWords (taken.optIn l f)
-two-words l (Taken s) e = rw e
-two-words l Nothing e = rw e
-
-name-pair : (n : Option Name) → getD (nameWords n) 0 0 ∷ getD (nameWords n) 1 0 ∷ [] ≡ nameWords n
+pub name-pair : (n : Option Name) → getD (nameWords n) 0 0 ∷ getD (nameWords n) 1 0 ∷ [] ≡ nameWords n
 name-pair (some n) = refl
 name-pair none = refl
 

@@ -8,8 +8,8 @@ use Rattle.scope.specs.declared.Reason.the-variants.{NotFound}
 use Rattle.scope.specs.Records.{Link}
 use Rattle.scope.specs.Values.{Read, good, bad}
 use Rattle.scope.specs.Links.{Ends}
-use Rattle.links.specs.Lines.{kindIn}
-use Rattle.links.specs.declared.LinkKind.{LinkKind}
+use Rattle.linklines.specs.Lines.{kindIn}
+use Rattle.linklines.specs.declared.LinkKind.{LinkKind}
 use Rattle.links.specs.declared.EndsFound.{EndsFound}
 use Rattle.links.specs.declared.EndsFound.the-variants.{Both, NotBoth}
 

@@ -1,8 +1,8 @@
 -- What a line of EMITTERS or COORDINATES makes of the network: a node is changed in its place. Assumes nothing.
-use Prim.Native.Nat.{ℕ, _+_, _*_, _≤_, _<_}
+use Prim.Native.Nat.{ℕ, _+_, _*_, _<_}
 use native.Mathlib.Omega.{arith}
 use mathlib.Core.Path.{_≡_, refl, sym, ap, _∙_}
-use mathlib.Core.Bool.{Bool, true, false}
+use mathlib.Core.Bool.{true, false}
 use mathlib.Core.List.{List, [], _∷_, _++_}
 use mathlib.Core.Option.{Option, none, some}
 use lib.ListN.{length, getD}
@@ -13,7 +13,7 @@ use Rattle.scope.specs.declared.Reason.the-variants.{NotFound, WrongKind}
 use Rattle.scope.specs.declared.Found.the-variants.{At, Nowhere}
 use Rattle.scope.specs.declared.Counts.{Counts}
 use Rattle.scope.specs.Records.{Network, Node, NodeKind, junction, reservoir, tank, Junction, Place, noNode, lookup, nodeIds}
-use Rattle.scope.specs.Values.{Read, good, bad}
+use Rattle.scope.specs.Values.{good, bad}
 use Rattle.scope.specs.Nodes.{onJunction, changeNode, emitting, setEmitter, standing, setPlace}
 use Rattle.scope.specs.Tables.{idWords, nameWords, flag, indexNo, kindWords, kindNumbers, placed, placeNumbers, nodeWords, nodeNumbers}
 use Rattle.tables.specs.Table.{splice}

@@ -1,5 +1,4 @@
 -- What the proofs of several functions use.
-pub mod TankLaws
 pub mod StoreLaws
 pub mod ChangeLaws
 pub mod LineLaws

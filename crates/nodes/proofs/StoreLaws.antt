@@ -11,7 +11,6 @@ use Rattle.fields.specs.Fields.{Name, nameIn, part, Fits, optIn, MayFit}
 use Rattle.fields.specs.declared.Span.{Span}
 use Rattle.fields.specs.declared.Field.{Field}
 use Rattle.scope.specs.declared.Reason.the-variants.{Used, Full}
-use Rattle.scope.specs.declared.Found.{Found}
 use Rattle.scope.specs.declared.Found.the-variants.{At, Nowhere}
 use Rattle.scope.specs.declared.Counts.{Counts}
 use Rattle.scope.specs.declared.Tank as coded
@@ -20,13 +19,13 @@ use Rattle.scope.specs.Nodes.{JunctionFields, junctionNode, junctionDemand, add
 use Rattle.scope.specs.Tables.{idWords, nameWords, flag, nodeWords, nodeNumbers, demandWords, demandNumbers}
 use Rattle.tables.specs.Table.{splice}
 use Rattle.tables.specs.Layout.{nodesAt, nodeSize, nodeNumbersAt, nodeNumbersSize, demandsAt, demandSize, demandNumbersAt}
-use Rattle.tables.specs.Holding.{Words, Holds, After}
+use Rattle.tables.specs.Holding.{Holds, After}
 use Rattle.tables.specs.declared.Kept.the-variants.{Stored, Refused}
 use Rattle.tables.proofs.HoldLaws.{sits-span, sits-field, add-node, add-demand, count-nodes, count-demands}
-use Rattle.nodes.specs.Lines.{junctionIn, reservoirIn, tankIn}
+use Rattle.nodelines.specs.Lines.{junctionIn, tankIn}
 use Rattle.nodes.specs.Storing.{newNode, newWords, ownWords, KindAs}
-use Rattle.nodes.specs.declared.JunctionLine.{JunctionLine}
-use Rattle.nodes.specs.declared.ReservoirLine.{ReservoirLine}
+use Rattle.nodelines.specs.declared.JunctionLine.{JunctionLine}
+use Rattle.nodelines.specs.declared.ReservoirLine.{ReservoirLine}
 
 -- ---- the words that are put
 pub new-words : (i l : List ℕ) (n : Name) (kind : ℕ) (p : Option Name) (last : ℕ) → i ≡ idWords n → l ≡ nameWords p

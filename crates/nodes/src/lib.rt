@@ -1,257 +1,32 @@
-// Reads a line of JUNCTIONS, RESERVOIRS, TANKS, EMITTERS or COORDINATES, and stores what it says. A reader takes the fields in order; then the record is looked up and stored.
+// Stores what a line of JUNCTIONS, RESERVOIRS, TANKS, EMITTERS or COORDINATES says, as nodelines reads it: the record is looked up and stored.
 ghost use mathlib.Core.Path.{_≡_};
-ghost use mathlib.Core.Bool.{Bool};
-ghost use mathlib.Core.List.{List, [], _∷_};
-ghost use Prim.Native.Nat.{ℕ, _+_, _*_, _≤_, _<_};
+ghost use Prim.Native.Nat.{_+_, _*_, _≤_, _<_};
 ghost use lib.ListN.{length, take};
 ghost use Rattle.fields.specs.Fields.{fieldsAt, nameIn, part, Fits, optIn, MayFit};
 ghost use Rattle.scope.specs.Records.{Network, Node, NodeKind, lookup, nodeIds};
 ghost use Rattle.scope.specs.Values.{Read, onRead};
-ghost use Rattle.scope.specs.Nodes.{junctionOf, reservoirOf, tankOf, levelsOf, curveIn, overflowIn, junctionNode, tankNode, junctionDemand, addJunction, addNode, setEmitter, setPlace, junctionStep, reservoirStep, tankStep, emitterStep, coordinatesStep};
-ghost use Rattle.scope.specs.Tables.{nameWords, nodeWords, nodeNumbers, demandWords, demandNumbers, recordWords, roomNumbers};
+ghost use Rattle.scope.specs.Nodes.{junctionNode, tankNode, junctionDemand, addJunction, addNode, setEmitter, setPlace, junctionStep, reservoirStep, tankStep, emitterStep, coordinatesStep};
+ghost use Rattle.scope.specs.Tables.{nodeWords, nodeNumbers, demandWords, demandNumbers, recordWords, roomNumbers};
 ghost use Rattle.tables.specs.Table.{splice};
 ghost use Rattle.tables.specs.Layout.{nodesAt, nodeSize, nodeNumbersAt, nodeNumbersSize, demandsAt, demandSize, demandNumbersAt};
 ghost use Rattle.tables.specs.Holding.{Words, Holds, Sound, After};
-ghost use Rattle.nodes.specs.Lines.{junctionIn, JunctionAs, reservoirIn, tankIn, NodeAs, CurveAs, emitterOf, emitterIn, EmitterAs, placeOf, placeIn, PlaceAs};
+ghost use Rattle.nodelines.specs.Lines.{junctionIn, reservoirIn, tankIn, NodeAs, placeIn};
 ghost use Rattle.nodes.specs.Storing.{newNode, newWords, ownWords, KindAs};
 use fields::Field;
 use fields::Span;
+use nodelines::EmitterLine;
+use nodelines::EmitterRead;
+use nodelines::JunctionLine;
+use nodelines::JunctionRead;
+use nodelines::NodeRead;
+use nodelines::PlaceLine;
+use nodelines::PlaceRead;
+use nodelines::ReservoirLine;
 use scope::Counts;
 use scope::Found;
 use scope::Reason;
 use scope::Tank;
 use tables::Kept;
-use takers::TookFlag;
-use takers::TookNumber;
-
-// ---- what the lines say
-
-pub struct JunctionLine {
-    pub id: Span,
-    pub elevation: f64,
-    pub demand: f64,
-    pub pattern: Field,
-    pub disabled: bool,
-}
-
-pub enum JunctionRead {
-    Junction(JunctionLine),
-    NoJunction(Reason),
-}
-
-pub struct ReservoirLine {
-    pub id: Span,
-    pub elevation: f64,
-    pub pattern: Field,
-}
-
-pub struct TankLine {
-    pub id: Span,
-    pub tank: Tank,
-}
-
-// What a line of RESERVOIRS or TANKS says.
-pub enum NodeRead {
-    Reservoir(ReservoirLine),
-    Basin(TankLine),
-    NoNode(Reason),
-}
-
-pub struct EmitterLine {
-    pub id: Span,
-    pub coefficient: f64,
-}
-
-pub enum EmitterRead {
-    Emitter(EmitterLine),
-    NoEmitter(Reason),
-}
-
-pub struct PlaceLine {
-    pub id: Span,
-    pub x: f64,
-    pub y: f64,
-}
-
-pub enum PlaceRead {
-    Place(PlaceLine),
-    NoPlace(Reason),
-}
-
-// ---- reading them
-
-// Id, elevation, demand, pattern, disabled. A missing elevation is read from the text 0.
-fn read_junction(l: &[u8], at: usize) -> JunctionRead
-    ensures { λ r. ⌜ JunctionAs (now (l .entry)) (junctionOf (fieldsAt (now (l .entry)) at)) r ⌝ }
-{
-    let f = fields::next_field(l, at);
-    let Field::Taken(id) = f else {
-        return JunctionRead::NoJunction(Reason::Missing);
-    };
-    let height = takers::take_number_or(l, id.end, b"0");
-    let TookNumber::Number(elevation, at2) = height else {
-        return JunctionRead::NoJunction(takers::reason_of(height));
-    };
-    let amount = takers::take_swallowed(l, at2, 0.0);
-    let TookNumber::Number(demand, at3) = amount else {
-        return JunctionRead::NoJunction(takers::reason_of(amount));
-    };
-    let pattern = fields::next_field(l, at3);
-    let at4 = fields::past_field(l, at3);
-    let off = takers::take_flag(l, at4);
-    match off {
-        TookFlag::Flag(disabled, _) => JunctionRead::Junction(JunctionLine {
-            id,
-            elevation,
-            demand,
-            pattern,
-            disabled,
-        }),
-        TookFlag::NoFlag(why) => JunctionRead::NoJunction(why),
-    }
-}
-
-// Id, elevation, optional pattern.
-fn read_reservoir(l: &[u8], at: usize) -> NodeRead
-    ensures { λ r. ⌜ NodeAs (now (l .entry)) (reservoirOf (fieldsAt (now (l .entry)) at)) r ⌝ }
-{
-    let f = fields::next_field(l, at);
-    let Field::Taken(id) = f else {
-        return NodeRead::NoNode(Reason::Missing);
-    };
-    let height = takers::take_number(l, id.end);
-    let TookNumber::Number(elevation, at2) = height else {
-        return NodeRead::NoNode(takers::reason_of(height));
-    };
-    let pattern = fields::next_field(l, at2);
-    NodeRead::Reservoir(ReservoirLine {
-        id,
-        elevation,
-        pattern,
-    })
-}
-
-// A tank's curve: `*` is none.
-fn take_curve(l: &[u8], at: usize) -> Field
-    ensures { λ r. ⌜ CurveAs (now (l .entry)) (curveIn (fieldsAt (now (l .entry)) at)) r ⌝ }
-{
-    let f = fields::next_field(l, at);
-    let Field::Taken(s) = f else {
-        return Field::Nothing;
-    };
-    if fields::equal(fields::letters_of(l, s), b"*") {
-        return Field::Nothing;
-    }
-    Field::Taken(s)
-}
-
-// Whether a tank may overflow: YES in any case.
-fn take_overflow(l: &[u8], at: usize) -> bool
-    ensures { λ r. ⌜ r ≡ overflowIn (fieldsAt (now (l .entry)) at) ⌝ }
-{
-    let f = fields::next_field(l, at);
-    let Field::Taken(s) = f else {
-        return false;
-    };
-    fields::spells(fields::letters_of(l, s), b"YES")
-}
-
-// A tank's fields after its elevation.
-fn read_levels(l: &[u8], at: usize, id: Span, elevation: f64) -> NodeRead
-    ensures { λ r. ⌜ (Fits (now (l .entry)) id → NodeAs (now (l .entry)) (levelsOf (nameIn (now (l .entry)) id) elevation (fieldsAt (now (l .entry)) at)) r) ⌝ }
-{
-    let first = takers::take_number(l, at);
-    let TookNumber::Number(initial, at2) = first else {
-        return NodeRead::NoNode(takers::reason_of(first));
-    };
-    let second = takers::take_number(l, at2);
-    let TookNumber::Number(minimum, at3) = second else {
-        return NodeRead::NoNode(takers::reason_of(second));
-    };
-    let third = takers::take_number(l, at3);
-    let TookNumber::Number(maximum, at4) = third else {
-        return NodeRead::NoNode(takers::reason_of(third));
-    };
-    let fourth = takers::take_number(l, at4);
-    let TookNumber::Number(diameter, at5) = fourth else {
-        return NodeRead::NoNode(takers::reason_of(fourth));
-    };
-    let fifth = takers::take_number_or(l, at5, b"0");
-    let TookNumber::Number(volume, at6) = fifth else {
-        return NodeRead::NoNode(takers::reason_of(fifth));
-    };
-    let curve = take_curve(l, at6);
-    let at7 = fields::past_field(l, at6);
-    let overflow = take_overflow(l, at7);
-    let tank = Tank {
-        elevation,
-        initial,
-        minimum,
-        maximum,
-        diameter,
-        volume,
-        curve,
-        overflow,
-    };
-    NodeRead::Basin(TankLine { id, tank })
-}
-
-// Id, elevation, then a tank's levels; id and elevation alone make a reservoir.
-fn read_tank(l: &[u8], at: usize) -> NodeRead
-    ensures { λ r. ⌜ NodeAs (now (l .entry)) (tankOf (fieldsAt (now (l .entry)) at)) r ⌝ }
-{
-    let f = fields::next_field(l, at);
-    let Field::Taken(id) = f else {
-        return NodeRead::NoNode(Reason::Missing);
-    };
-    let height = takers::take_number(l, id.end);
-    let TookNumber::Number(elevation, at2) = height else {
-        return NodeRead::NoNode(takers::reason_of(height));
-    };
-    let more = fields::next_field(l, at2);
-    match more {
-        Field::Taken(_) => read_levels(l, at2, id, elevation),
-        Field::Nothing => NodeRead::Reservoir(ReservoirLine {
-            id,
-            elevation,
-            pattern: more,
-        }),
-    }
-}
-
-// A junction and its coefficient.
-fn read_emitter(l: &[u8], at: usize) -> EmitterRead
-    ensures { λ r. ⌜ EmitterAs (now (l .entry)) (emitterOf (fieldsAt (now (l .entry)) at)) r ⌝ }
-{
-    let f = fields::next_field(l, at);
-    let Field::Taken(id) = f else {
-        return EmitterRead::NoEmitter(Reason::Missing);
-    };
-    let first = takers::take_number(l, id.end);
-    match first {
-        TookNumber::Number(coefficient, _) => EmitterRead::Emitter(EmitterLine { id, coefficient }),
-        TookNumber::NoNumber(why) => EmitterRead::NoEmitter(why),
-    }
-}
-
-// A node, x and y.
-fn read_coordinates(l: &[u8], at: usize) -> PlaceRead
-    ensures { λ r. ⌜ PlaceAs (now (l .entry)) (placeOf (fieldsAt (now (l .entry)) at)) r ⌝ }
-{
-    let f = fields::next_field(l, at);
-    let Field::Taken(id) = f else {
-        return PlaceRead::NoPlace(Reason::Missing);
-    };
-    let first = takers::take_number(l, id.end);
-    let TookNumber::Number(x, at2) = first else {
-        return PlaceRead::NoPlace(takers::reason_of(first));
-    };
-    let second = takers::take_number(l, at2);
-    match second {
-        TookNumber::Number(y, _) => PlaceRead::Place(PlaceLine { id, x, y }),
-        TookNumber::NoNumber(why) => PlaceRead::NoPlace(why),
-    }
-}
 
 // ---- storing them
 
@@ -532,7 +307,7 @@ pub fn junction_line(
     ensures { λ r. ⌜ ((m : Network) → Holds (now (text .entry)) m s (now (words .entry)) (now (numbers .entry))
         → After (now (text .entry)) (junctionStep (fieldsAt (take end (now (text .entry))) at) m) r (now (words .entry)) (now (numbers .entry)) (now (words .exit)) (now (numbers .exit))) ⌝ }
 {
-    let read = read_junction(&text[..end], at);
+    let read = nodelines::read_junction(&text[..end], at);
     match read {
         JunctionRead::Junction(j) => store_junction(text, j, s, words, numbers),
         JunctionRead::NoJunction(why) => Kept::Refused(why),
@@ -552,7 +327,7 @@ pub fn reservoir_line(
     ensures { λ r. ⌜ ((m : Network) → Holds (now (text .entry)) m s (now (words .entry)) (now (numbers .entry))
         → After (now (text .entry)) (reservoirStep (fieldsAt (take end (now (text .entry))) at) m) r (now (words .entry)) (now (numbers .entry)) (now (words .exit)) (now (numbers .exit))) ⌝ }
 {
-    let read = read_reservoir(&text[..end], at);
+    let read = nodelines::read_reservoir(&text[..end], at);
     store_read(text, read, s, words, numbers)
 }
 
@@ -569,7 +344,7 @@ pub fn tank_line(
     ensures { λ r. ⌜ ((m : Network) → Holds (now (text .entry)) m s (now (words .entry)) (now (numbers .entry))
         → After (now (text .entry)) (tankStep (fieldsAt (take end (now (text .entry))) at) m) r (now (words .entry)) (now (numbers .entry)) (now (words .exit)) (now (numbers .exit))) ⌝ }
 {
-    let read = read_tank(&text[..end], at);
+    let read = nodelines::read_tank(&text[..end], at);
     store_read(text, read, s, words, numbers)
 }
 
@@ -586,7 +361,7 @@ pub fn emitter_line(
     ensures { λ r. ⌜ ((m : Network) → Holds (now (text .entry)) m s (now (words .entry)) (now (numbers .entry))
         → After (now (text .entry)) (emitterStep (fieldsAt (take end (now (text .entry))) at) m) r (now (words .entry)) (now (numbers .entry)) (now (words .exit)) (now (numbers .exit))) ⌝ }
 {
-    let read = read_emitter(&text[..end], at);
+    let read = nodelines::read_emitter(&text[..end], at);
     match read {
         EmitterRead::Emitter(e) => store_emitter(text, e, s, words, numbers),
         EmitterRead::NoEmitter(why) => Kept::Refused(why),
@@ -606,7 +381,7 @@ pub fn coordinates_line(
     ensures { λ r. ⌜ ((m : Network) → Holds (now (text .entry)) m s (now (words .entry)) (now (numbers .entry))
         → After (now (text .entry)) (coordinatesStep (fieldsAt (take end (now (text .entry))) at) m) r (now (words .entry)) (now (numbers .entry)) (now (words .exit)) (now (numbers .exit))) ⌝ }
 {
-    let read = read_coordinates(&text[..end], at);
+    let read = nodelines::read_coordinates(&text[..end], at);
     match read {
         PlaceRead::Place(p) => store_coordinates(text, p, s, words, numbers),
         PlaceRead::NoPlace(why) => Kept::Refused(why),

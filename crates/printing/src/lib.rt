@@ -236,3 +236,15 @@ pub fn point_numbers_row(i: usize) -> usize {
         tables::POINT_NUMBERS
     }
 }
+
+// Clauses of a kind: 1 is a condition, 2 an action.
+pub fn clauses(words: &[u64], kind: u64) -> u64 {
+    let all = records(words, 8);
+    let mut n = 0;
+    let mut k = 0;
+    while k < all {
+        n += one_if(word(words, clause_row(k), 0) == kind);
+        k += 1;
+    }
+    n
+}

@@ -1,7 +1,4 @@
--- What the proofs of several functions use.
-pub mod GroupLaws
-pub mod StepLaws
-pub mod WayLaws
+-- What the proofs of several functions use, here and in the survey.
 pub mod StrictLaws
-pub mod SurveyLaws
 pub mod RoomLaws
+pub mod Once

@@ -2,25 +2,23 @@
 use Prim.Native.Nat.{ℕ, _+_, _≤_}
 use native.Mathlib.Omega.{arith}
 use borrow.Author.Tests.{ltb-false}
-use mathlib.Core.Path.{_≡_, refl, sym, ap, ap₂, _∙_}
+use mathlib.Core.Path.{_≡_, refl, sym, ap, ap₂, _∙_, subst}
 use mathlib.Core.Bool.{Bool, true, false, _||_}
-use mathlib.Core.List.{List, _++_}
-use lib.ListN.{length, drop, length-append, length-drop}
+use mathlib.Core.List.{List, _++_, append-assoc}
+use lib.ListN.{length, take, drop, length-append, length-drop}
 use lib.Seq.{take-at, drop-at, drop-drop}
 use lib.Dec.{ltb}
 use lib.Ieee.{Float}
-use Rattle.lines.specs.Tables.{codeOf, reasonIn, marksIn}
 use Rattle.scope.specs.declared.Counts.{Counts}
 use Rattle.scope.specs.declared.Answer.{Answer}
-use Rattle.scope.specs.declared.Survey.{Survey}
-use Rattle.scope.specs.Sections.{roomLines}
 use Rattle.scope.specs.Records.{Network}
 use Rattle.scope.specs.Tables.{recordWords, roomWords, roomNumbers, tallyWords, wordsOf, numbersOf}
-use Rattle.scope.specs.Reading.{byText, says, told, strictOf, noSurvey, surveyOf, strictNetwork, surveyNetwork, surveyMarked, tooSmall, surveySmall, wordsHolding, numbersHolding, strictAnswer, strictWords, strictNumbers, surveyAnswer, surveyWords, surveyNumbers, surveyClasses, surveyReasons}
+use Rattle.scope.specs.Reading.{byText, says, told, strictOf, strictNetwork, tooSmall, wordsHolding, numbersHolding, strictAnswer, strictWords, strictNumbers}
 use Rattle.tables.specs.Table.{splice}
-use Rattle.tables.specs.Holding.{Holds}
-use Rattle.tables.proofs.AfterLaws.{holds-words}
-use Rattle.reading.proofs.StepLaws.{never}
+use Rattle.tables.specs.Holding.{Words, Numbers, Holds}
+use Rattle.tables.proofs.AfterLaws.{holds-words, holds-numbers}
+use Rattle.stored.specs.Back.{Stands}
+use Rattle.steps.proofs.StepLaws.{never}
 
 -- ---- room
 pub room : (w f : ℕ) → tooSmall w f ≡ false → (roomWords ≤ w) × (roomNumbers ≤ f)
@@ -30,15 +28,6 @@ room w f z = let p = go (ltb w roomWords) (ltb f roomNumbers) z in (ltb-false w 
     go : (x y : Bool) → x || y ≡ false → (x ≡ false) × (y ≡ false)
     go true y e = never (sym e)
     go false y e = (refl, e)
-
-pub survey-room : (w f c r : ℕ) → surveySmall w f c r ≡ false → (tooSmall w f ≡ false) × (roomLines ≤ c) × (roomLines ≤ r)
-unfolding surveySmall
-survey-room w f c r z = let p = go (tooSmall w f) (ltb c roomLines) (ltb r roomLines) z in (p .0, ltb-false c roomLines (p .1), ltb-false r roomLines (p .2))
-  where
-    go : (x y v : Bool) → x || y || v ≡ false → (x ≡ false) × (y ≡ false) × (v ≡ false)
-    go true y v e = never (sym e)
-    go false true v e = never (sym e)
-    go false false v e = (refl, refl, e)
 
 -- a part that comes back leaves the table as long as it was
 pub back-long : {A : Type 0} (x w : List A) (n : ℕ) → length x ≡ n → n ≤ length w → length (x ++ drop n w) ≡ length w
@@ -62,36 +51,28 @@ module _ {text : List ℕ} {m : Network} {c : Counts} {x : List ℕ} {y : List F
   unfolding numbersOf
   numbers-left f e = e ∙ ap (λ (v : List Float). v ++ drop roomNumbers f) (h .numbers .exact)
 
+  -- ..and what is left can be read back
+  pub stands-left : (w : List ℕ) (f : List Float) {w′ : List ℕ} {f′ : List Float}
+      → w′ ≡ splice (x ++ drop recordWords w) recordWords (tallyWords c) → f′ ≡ y ++ drop roomNumbers f → Stands m w′ f′
+  stands-left w f ew ef =
+      let rest : List ℕ = drop (recordWords + 9) w in
+      let tw =
+      ap (take recordWords) (ew ∙ paste-at w x (tallyWords c) recordWords 9 (holds-words h) refl ∙ append-assoc x (tallyWords c) rest)
+      ∙ take-at x (tallyWords c ++ rest) recordWords (holds-words h) in
+      let tf = ap (take roomNumbers) ef ∙ take-at y (drop roomNumbers f) roomNumbers (holds-numbers h) in
+      record { text = text; words = subst (Words text m) (sym tw) (h .words); numbers = subst (Numbers m) (sym tf) (h .numbers) }
+
 -- ---- the ways through `read_strict`
 module _ (text w : List ℕ) (f : List Float) where
   abbrev pub Read : Answer → List ℕ → List Float → Type 0
-  Read a w′ f′ = (a ≡ strictAnswer text (length w) (length f)) × (w′ ≡ strictWords text w (length f)) × (f′ ≡ strictNumbers text (length w) f)
+  Read a w′ f′ = (a ≡ strictAnswer text (length w) (length f)) × (w′ ≡ strictWords text w (length f)) × (f′ ≡ strictNumbers text (length w) f) × (tooSmall (length w) (length f) ≡ false → Stands (strictNetwork text) w′ f′)
 
   pub strict-small : {a : Answer} → tooSmall (length w) (length f) ≡ true → a ≡ says 28 0 → Read a w f
   unfolding strictAnswer strictWords strictNumbers
-  strict-small z e = rw z (e, refl, refl)
+  strict-small z e = rw z (e, refl, refl, λ q. never (sym q))
 
   pub strict-read : {a : Answer} {c : Counts} {x w′ : List ℕ} {y f′ : List Float} → tooSmall (length w) (length f) ≡ false
       → a ≡ byText text (says 20 0) (says 21 0) (told (strictOf text)) → Holds text (strictNetwork text) c x y
       → w′ ≡ splice (x ++ drop recordWords w) recordWords (tallyWords c) → f′ ≡ y ++ drop roomNumbers f → Read a w′ f′
   unfolding strictAnswer strictWords strictNumbers
-  strict-read z ea hd ew ef = rw z (ea, words-left hd w ew, numbers-left hd f ef)
-
--- ---- the ways through `read_survey`
-module _ (text w : List ℕ) (f : List Float) (c r : List ℕ) where
-  abbrev pub Seen : Survey → List ℕ → List Float → List ℕ → List ℕ → Type 0
-  Seen a w′ f′ c′ r′ =
-      (a ≡ surveyAnswer text w f c r) × (w′ ≡ surveyWords text w f c r) × (f′ ≡ surveyNumbers text w f c r) × (c′ ≡ surveyClasses text w f c r) × (r′ ≡ surveyReasons text w f c r)
-
-  pub survey-small : {a : Survey} → surveySmall (length w) (length f) (length c) (length r) ≡ true → a ≡ noSurvey 28 → Seen a w f c r
-  unfolding surveyAnswer surveyWords surveyNumbers surveyClasses surveyReasons
-  survey-small z e = rw z (e, refl, refl, refl, refl)
-
-  pub survey-read : {a : Survey} {n : Counts} {x w′ c′ r′ cs rs : List ℕ} {y f′ : List Float} → surveySmall (length w) (length f) (length c) (length r) ≡ false
-      → a ≡ byText text (noSurvey 20) (noSurvey 21) (surveyOf text) → Holds text (surveyNetwork text) n x y
-      → cs ≡ marksIn codeOf roomLines (surveyMarked text) → rs ≡ marksIn reasonIn roomLines (surveyMarked text)
-      → w′ ≡ splice (x ++ drop recordWords w) recordWords (tallyWords n) → f′ ≡ y ++ drop roomNumbers f → c′ ≡ cs ++ drop roomLines c → r′ ≡ rs ++ drop roomLines r
-      → Seen a w′ f′ c′ r′
-  unfolding surveyAnswer surveyWords surveyNumbers surveyClasses surveyReasons
-  survey-read z ea hd zc zr ew ef ec er =
-      rw z (ea, words-left hd w ew, numbers-left hd f ef, ec ∙ ap (λ (v : List ℕ). v ++ drop roomLines c) zc, er ∙ ap (λ (v : List ℕ). v ++ drop roomLines r) zr)
+  strict-read z ea hd ew ef = rw z (ea, words-left hd w ew, numbers-left hd f ef, λ _. stands-left hd w f ew ef)

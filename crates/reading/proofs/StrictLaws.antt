@@ -3,10 +3,11 @@ use Prim.Native.Nat.{ℕ, suc, _+_, _≤_, _<_}
 use native.Mathlib.Omega.{arith}
 use borrow.Author.Tests.{lt-ltb, le-ltb}
 use mathlib.Core.Path.{_≡_, refl, sym, ap, _∙_, subst}
-use mathlib.Core.Bool.{true, false}
+use mathlib.Core.Bool.{Bool, true, false, cond}
 use mathlib.Core.List.{List}
 use lib.ListN.{length, drop, getD, replicate, drop-of-length-le}
 use lib.Seq.{drop-cons}
+use lib.Dec.{ltb}
 use lib.Ieee.{Float}
 use Rattle.fields.specs.Lines.{lineLen}
 use Rattle.fields.proofs.LineLaws.{body-long, end-more}
@@ -22,12 +23,12 @@ use Rattle.scope.specs.Series.{resolved}
 use Rattle.scope.specs.Lines.{inp}
 use Rattle.scope.specs.Tables.{recordWords, roomNumbers}
 use Rattle.scope.specs.Reading.{atStart, allLow, byText, says, told, strictOf, networkIn, strictNetwork}
-use Rattle.tables.specs.Holding.{Holds, Sound}
+use Rattle.tables.specs.Holding.{Holds}
 use Rattle.tables.proofs.EmptyLaws.{empty}
-use Rattle.reading.specs.Held.{Model, Stands, Fits, Stepped, Goes, newState}
-use Rattle.reading.specs.declared.State.{State}
-use Rattle.reading.specs.declared.Turn.{Turn}
-use Rattle.reading.proofs.StepLaws.{never}
+use Rattle.steps.specs.Held.{Model, Stands, Fits, Stepped, Goes, newState}
+use Rattle.steps.specs.declared.State.{State}
+use Rattle.steps.specs.declared.Turn.{Turn}
+use Rattle.steps.proofs.StepLaws.{never}
 
 -- ---- how far the loop has come
 pub record Gone (text w : List ℕ) (f : List Float) (s : State) : Type 0 where
@@ -49,10 +50,6 @@ pub further : {text w : List ℕ} {f : List Float} {s : State} {m : Model} {o : 
 further {text} {s = s} h st =
     let e : ℕ = s .at + lineLen (drop (s .at) text) in
     omega (arith, st .at, body-long text (s .at) e h refl, end-more text (s .at) e h refl)
-
--- some network is held
-pub sound : {text w : List ℕ} {f : List Float} {s : State} {m : Model} → Stands text s w f m → Sound text (s .counts) w f
-sound {m = m} st = record { m = m .recs; holds = st .recs }
 
 -- what the strict loop gives
 abbrev pub Done : List ℕ → List ℕ → List Float → Answer → Counts → Type 0
@@ -93,18 +90,21 @@ module _ {text w : List ℕ} {f : List Float} {s : State} (g : Gone text w f s) 
       )
 
 -- ---- bytes above 127
-module _ (t : List ℕ) (i : ℕ) (h : i < length t) where
-  pub low-on : getD t i 0 ≤ 127 → allLow (drop i t) ≡ allLow (drop (suc i) t)
-  unfolding allLow
-  low-on z = rw (drop-cons t i 0 h, le-ltb 127 (getD t i 0) z)
-
-  pub low-off : 127 < getD t i 0 → allLow (drop i t) ≡ false
-  unfolding allLow
-  low-off z = rw (drop-cons t i 0 h, lt-ltb 127 (getD t i 0) z)
-
-pub low-end : (t : List ℕ) (i : ℕ) → length t ≤ i → allLow (drop i t) ≡ true
+pub low-step : (t : List ℕ) (i : ℕ) (low : Bool) → i < length t
+    → cond (cond (ltb 127 (getD t i 0)) false low) (allLow (drop (suc i) t)) false ≡ cond low (allLow (drop i t)) false
 unfolding allLow
-low-end t i h = rw (drop-of-length-le t h)
+low-step t i low h = rw (drop-cons t i 0 h) (go (ltb 127 (getD t i 0)) low (allLow (drop (suc i) t)))
+  where
+    go : (high low rest : Bool) → cond (cond high false low) rest false ≡ cond low (cond high false rest) false
+    go true true rest = refl
+    go true false rest = refl
+    go false true rest = refl
+    go false false rest = refl
+
+pub low-end : (t : List ℕ) (i : ℕ) (low : Bool) → length t ≤ i → cond low (allLow (drop i t)) false ≡ low
+unfolding allLow
+low-end t i true h = rw (drop-of-length-le t h)
+low-end t i false h = refl
 
 -- ---- the ways through `strict_in`
 pub cleared : (text w : List ℕ) (f : List Float) {w′ : List ℕ} {f′ : List Float} → length w ≡ recordWords → length f ≡ roomNumbers → w′ ≡ replicate (length w) 0 → f′ ≡ replicate (length f) zeroF

@@ -620,7 +620,7 @@ fn show_survey(text: &[u8]) {
     let mut numbers = [0.0f64; ROOM_NUMBERS];
     let mut classes = [0u8; ROOM_LINES];
     let mut reasons = [0u8; ROOM_LINES];
-    let s = reading::read_survey(text, &mut words, &mut numbers, &mut classes, &mut reasons);
+    let s = surveying::read_survey(text, &mut words, &mut numbers, &mut classes, &mut reasons);
     show_answer(s.number, 0);
     show_network(text, &words, &numbers);
     show_sets(&words);

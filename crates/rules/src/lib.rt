@@ -88,7 +88,7 @@ fn action_at(
 }
 
 // The action after a line's first word.
-fn read_action(
+fn read_rule_action(
     l: &[u8],
     at: usize,
     otherwise: bool,
@@ -193,12 +193,12 @@ fn and_line(
 {
     if acting {
         return as_action(
-            read_action(l, at, otherwise, text, words, links),
+            read_rule_action(l, at, otherwise, text, words, links),
             true,
             otherwise,
         );
     }
-    as_condition(clauses::read_condition(l, at, Operator::And))
+    as_condition(clauses::read_rule_condition(l, at, Operator::And))
 }
 
 // The line after its first word.
@@ -219,17 +219,23 @@ fn line_by(
 {
     match word {
         RuleWord::Rule => named_line(l, at),
-        RuleWord::If => as_condition(clauses::read_condition(l, at, Operator::And)),
-        RuleWord::Or => as_condition(clauses::read_condition(l, at, Operator::Or)),
+        RuleWord::If => as_condition(clauses::read_rule_condition(l, at, Operator::And)),
+        RuleWord::Or => as_condition(clauses::read_rule_condition(l, at, Operator::Or)),
         RuleWord::Then => {
             as_action(
-                read_action(l, at, false, text, words, links),
+                read_rule_action(l, at, false, text, words, links),
                 true,
                 otherwise,
             )
         }
         RuleWord::And => and_line(l, at, acting, otherwise, text, words, links),
-        RuleWord::Else => { as_action(read_action(l, at, true, text, words, links), acting, true) }
+        RuleWord::Else => {
+            as_action(
+                read_rule_action(l, at, true, text, words, links),
+                acting,
+                true,
+            )
+        }
         RuleWord::Priority => ranked_line(l, at),
         RuleWord::Unknown => LineRead::Refused(Reason::Unknown),
     }

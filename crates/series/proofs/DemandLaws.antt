@@ -25,14 +25,13 @@ use Rattle.scope.specs.declared.Reason.the-variants.{NotFound, WrongKind, Full}
 use Rattle.takers.specs.Taking.{optIn, MayFit}
 use Rattle.tables.specs.Table.{splice}
 use Rattle.tables.specs.Layout.{demandsAt, demandSize, demandNumbersAt}
-use Rattle.tables.specs.Holding as holding
-use Rattle.tables.specs.Holding.{SitsOr, Words, Holds, After, isJunction}
+use Rattle.tables.specs.Holding.{SitsOr, Words, Holds, After, noDemand, isJunction}
 use Rattle.tables.specs.declared.Kept.{Kept}
 use Rattle.tables.specs.declared.Kept.the-variants.{Stored, Refused}
 use Rattle.tables.proofs.HoldLaws.{sits-field, add-demand, change-demand, same-count-demands, count-demands}
 use Rattle.tables.proofs.LookLaws.{found-below}
 use Rattle.tables.proofs.ReadLaws.{demand-word, node-count}
-use Rattle.series.specs.Storing.{noDemand, isOwn}
+use Rattle.series.specs.Storing.{isOwn}
 
 -- ---- one demand
 own-flag : (b : Bool) → eqb (flag b) 1 ≡ b
@@ -103,22 +102,17 @@ pub own-in : (node : ℕ) (ds : List Demand) (k : ℕ) → ownFrom 0 node ds ≡
 own-in node ds k e = omega (arith, own-below 0 node ds k e)
 
 -- ---- the words of a demand
-opt-alike : (text : List ℕ) (f : Field) → holding.optIn text f ≡ optIn text f
-opt-alike text (Taken s) = refl
-opt-alike text Nothing = refl
-
 two-words : (o : Option Name) → nameWords o ≡ getD (nameWords o) 0 0 ∷ getD (nameWords o) 1 0 ∷ []
 two-words none = refl
 two-words (some n) = refl
 
-pub words-two : (text : List ℕ) (f : Field) {p : List ℕ} → p ≡ nameWords (holding.optIn text f) → length p ≡ 2
-words-two text f e = ap length (e ∙ two-words (holding.optIn text f))
+pub words-two : (text : List ℕ) (f : Field) {p : List ℕ} → p ≡ nameWords (optIn text f) → length p ≡ 2
+words-two text f e = ap length (e ∙ two-words (optIn text f))
 
-pub demand-words : (text : List ℕ) (node : ℕ) (x : Float) (f : Field) (p : List ℕ) → p ≡ nameWords (holding.optIn text f)
+pub demand-words : (text : List ℕ) (node : ℕ) (x : Float) (f : Field) (p : List ℕ) → p ≡ nameWords (optIn text f)
     → node ∷ 0 ∷ getD p 0 0 ∷ getD p 1 0 ∷ 0 ∷ [] ≡ demandWords (demandAt node x (optIn text f))
 demand-words text node x f p e =
-    let q : p ≡ nameWords (optIn text f) = e ∙ ap nameWords (opt-alike text f) in
-    ap (λ (l : List ℕ). node ∷ 0 ∷ getD l 0 0 ∷ getD l 1 0 ∷ 0 ∷ []) q ∙ ap (λ (l : List ℕ). node ∷ 0 ∷ l ++ (0 ∷ [])) (sym (two-words (optIn text f)))
+    ap (λ (l : List ℕ). node ∷ 0 ∷ getD l 0 0 ∷ getD l 1 0 ∷ 0 ∷ []) e ∙ ap (λ (l : List ℕ). node ∷ 0 ∷ l ++ (0 ∷ [])) (sym (two-words (optIn text f)))
 
 pub sits : (text : List ℕ) (f : Field) → MayFit text f → SitsOr text (optIn text f)
 sits text (Taken s) h = sits-field text (Taken s) h

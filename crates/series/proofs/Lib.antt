@@ -1,8 +1,6 @@
 -- What the proofs of this crate use.
 pub mod StepLaws
-pub mod PatternLaws
 pub mod StoringLaws
 pub mod PatternStoreLaws
 pub mod CurveLaws
 pub mod DemandLaws
-pub mod ResolveLaws

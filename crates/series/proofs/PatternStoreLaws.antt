@@ -27,7 +27,7 @@ use Rattle.tables.specs.Layout.{patternsAt, multipliersAt, idSize, multiplierNu
 use Rattle.tables.specs.Holding.{Holds, After}
 use Rattle.tables.specs.declared.Kept.the-variants.{Stored, Refused}
 use Rattle.tables.proofs.HoldLaws.{sits-span, add-pattern, add-multipliers, count-patterns, count-multipliers}
-use Rattle.series.proofs.PatternLaws.{line-le}
+use Rattle.serieslines.proofs.PatternLaws.{line-le}
 
 -- as many multipliers as fields
 on-long : (n : D.Number) (fs : List Name) (o : Read (List Float)) (xs : List Float) → ((ys : List Float) → o ≡ good ys → length ys ≡ length fs)

@@ -1,151 +1,31 @@
-// Reads a line of CURVES, PATTERNS or DEMANDS, and stores what it says; and works out the patterns' places at the end of a text.
+// Stores what a line of CURVES, PATTERNS or DEMANDS says.
 ghost use mathlib.Core.Path.{_≡_};
 ghost use mathlib.Core.List.{List, [], _∷_};
-ghost use mathlib.Core.Option.{Option};
 ghost use Prim.Native.Nat.{ℕ, _+_, _*_, _≤_, _<_};
 ghost use lib.ListN.{length, take, getD, replicate};
 ghost use lib.Ieee.{Float};
-ghost use Rattle.fields.specs.Fields.{Name, fieldsAt, nameIn, Fits};
+ghost use Rattle.fields.specs.Fields.{fieldsAt, nameIn, Fits};
 ghost use Rattle.scope.specs.Sections.{roomPoints, roomMultipliers, roomDemands};
 ghost use Rattle.scope.specs.Records.{Network};
 ghost use Rattle.scope.specs.Values.{good};
-ghost use Rattle.scope.specs.Series.{multipliersOf, falls, lastX, addPoint, curveStep, addPattern, patternStep, demandAt, ownFrom, addDemand, setDemand, demandStep, indexOf, resolved};
-ghost use Rattle.scope.specs.Tables.{recordWords, roomNumbers, nameWords, indexNo, demandWords};
+ghost use Rattle.scope.specs.Series.{multipliersOf, falls, lastX, addPoint, curveStep, addPattern, patternStep, demandAt, ownFrom, addDemand, setDemand, demandStep};
+ghost use Rattle.scope.specs.Tables.{recordWords, roomNumbers, demandWords};
 ghost use Rattle.takers.specs.Taking.{optIn, MayFit};
 ghost use Rattle.tables.specs.Table.{splice};
 ghost use Rattle.tables.specs.Layout.{pointsAt, multipliersAt, demandsAt, demandSize, pointNumbersAt, pointNumbersSize, multiplierNumbersAt, demandNumbersAt};
-ghost use Rattle.tables.specs.Holding.{SitsOr, Words, Numbers, Holds, Sound, After};
-ghost use Rattle.series.specs.Lines.{pointOf, PointAs, CountedAs, patternOf, PatternAs, demandOf, DemandAs};
-ghost use Rattle.series.specs.Storing.{noDemand, isOwn, demandResolved, nodeResolved, demandsResolved, nodesResolved};
-use fields::Field;
-use fields::Span;
+ghost use Rattle.tables.specs.Holding.{Words, Numbers, Holds, Sound, After, noDemand};
+ghost use Rattle.series.specs.Storing.{isOwn};
 use scope::Counts;
 use scope::Found;
 use scope::Reason;
+use serieslines::DemandLine;
+use serieslines::DemandRead;
+use serieslines::PatternLine;
+use serieslines::PatternRead;
+use serieslines::PointLine;
+use serieslines::PointRead;
 use tables::Kept;
 use takers::TookNumber;
-
-// ---- what the lines say
-
-pub struct PointLine {
-    pub id: Span,
-    pub x: f64,
-    pub y: f64,
-}
-
-pub enum PointRead {
-    Point(PointLine),
-    NoPoint(Reason),
-}
-
-// A pattern's id, where its multipliers start, and how many there are.
-pub struct PatternLine {
-    pub id: Span,
-    pub at: usize,
-    pub count: usize,
-}
-
-pub enum PatternRead {
-    Pattern(PatternLine),
-    NoPattern(Reason),
-}
-
-pub enum Counted {
-    Count(usize),
-    NoCount(Reason),
-}
-
-pub struct DemandLine {
-    pub id: Span,
-    pub base: f64,
-    pub pattern: Field,
-}
-
-pub enum DemandRead {
-    Demand(DemandLine),
-    NoDemand(Reason),
-}
-
-// ---- reading them
-
-// Id, x, y.
-fn read_curve(l: &[u8], at: usize) -> PointRead
-    ensures { λ r. ⌜ PointAs (now (l .entry)) (pointOf (fieldsAt (now (l .entry)) at)) r ⌝ }
-{
-    let f = fields::next_field(l, at);
-    let Field::Taken(id) = f else {
-        return PointRead::NoPoint(Reason::Missing);
-    };
-    let first = takers::take_number(l, id.end);
-    let TookNumber::Number(x, at2) = first else {
-        return PointRead::NoPoint(takers::reason_of(first));
-    };
-    let second = takers::take_number(l, at2);
-    match second {
-        TookNumber::Number(y, _) => PointRead::Point(PointLine { id, x, y }),
-        TookNumber::NoNumber(why) => PointRead::NoPoint(why),
-    }
-}
-
-// How many numbers there are from `at` on, where all fields are numbers.
-fn count_multipliers(l: &[u8], at: usize) -> Counted
-    ensures { λ r. ⌜ CountedAs (multipliersOf (fieldsAt (now (l .entry)) at)) r ⌝ }
-{
-    let mut n: usize = 0;
-    let mut p = at;
-    loop {
-        let f = fields::next_field(l, p);
-        let Field::Taken(s) = f else {
-            return Counted::Count(n);
-        };
-        let t = takers::as_number(decimals::read_number(fields::letters_of(l, s)), s.end);
-        match t {
-            TookNumber::Number(_, next) => {
-                n += 1;
-                p = next;
-            }
-            TookNumber::NoNumber(why) => {
-                return Counted::NoCount(why);
-            }
-        }
-    }
-}
-
-// Id, and any count of multipliers.
-fn read_pattern(l: &[u8], at: usize) -> PatternRead
-    ensures { λ r. ⌜ PatternAs (now (l .entry)) (patternOf (fieldsAt (now (l .entry)) at)) r ⌝ }
-{
-    let f = fields::next_field(l, at);
-    let Field::Taken(id) = f else {
-        return PatternRead::NoPattern(Reason::Missing);
-    };
-    let from = id.end;
-    let all = count_multipliers(l, from);
-    match all {
-        Counted::Count(count) => PatternRead::Pattern(PatternLine {
-            id,
-            at: from,
-            count,
-        }),
-        Counted::NoCount(why) => PatternRead::NoPattern(why),
-    }
-}
-
-// A junction, its demand, optional pattern.
-fn read_demand(l: &[u8], at: usize) -> DemandRead
-    ensures { λ r. ⌜ DemandAs (now (l .entry)) (demandOf (fieldsAt (now (l .entry)) at)) r ⌝ }
-{
-    let f = fields::next_field(l, at);
-    let Field::Taken(id) = f else {
-        return DemandRead::NoDemand(Reason::Missing);
-    };
-    let first = takers::take_number(l, id.end);
-    let TookNumber::Number(base, at2) = first else {
-        return DemandRead::NoDemand(takers::reason_of(first));
-    };
-    let pattern = fields::next_field(l, at2);
-    DemandRead::Demand(DemandLine { id, base, pattern })
-}
 
 // ---- CURVES
 
@@ -228,7 +108,7 @@ pub fn curve_line(
     ensures { λ r. ⌜ ((m : Network) → Holds (now (text .entry)) m s (now (words .entry)) (now (numbers .entry))
         → After (now (text .entry)) (curveStep (fieldsAt (take end (now (text .entry))) at) m) r (now (words .entry)) (now (numbers .entry)) (now (words .exit)) (now (numbers .exit))) ⌝ }
 {
-    let read = read_curve(&text[..end], at);
+    let read = serieslines::read_curve(&text[..end], at);
     match read {
         PointRead::Point(p) => store_point(text, p, s, words, numbers),
         PointRead::NoPoint(why) => Kept::Refused(why),
@@ -319,7 +199,7 @@ pub fn pattern_line(
         → After (now (text .entry)) (patternStep (fieldsAt (take end (now (text .entry))) at) m) r (now (words .entry)) (now (numbers .entry)) (now (words .exit)) (now (numbers .exit))) ⌝ }
 {
     let line = &text[..end];
-    let read = read_pattern(line, at);
+    let read = serieslines::read_pattern(line, at);
     match read {
         PatternRead::Pattern(p) => store_pattern(text, line, p, s, words, numbers),
         PatternRead::NoPattern(why) => Kept::Refused(why),
@@ -443,82 +323,9 @@ pub fn demand_line(
     ensures { λ r. ⌜ ((m : Network) → Holds (now (text .entry)) m s (now (words .entry)) (now (numbers .entry))
         → After (now (text .entry)) (demandStep (fieldsAt (take end (now (text .entry))) at) m) r (now (words .entry)) (now (numbers .entry)) (now (words .exit)) (now (numbers .exit))) ⌝ }
 {
-    let read = read_demand(&text[..end], at);
+    let read = serieslines::read_demand(&text[..end], at);
     match read {
         DemandRead::Demand(d) => store_demand(text, d, s, words, numbers),
         DemandRead::NoDemand(why) => Kept::Refused(why),
     }
-}
-
-// ---- the patterns' places, at the end of a text
-
-// The place plus one of the pattern that a record names by these words; 0 where it names none, or there is none.
-fn pattern_index(text: &[u8], words: &[u64], patterns: usize, at: u64, long: u64) -> u64
-    requires { ⌜ ((m : Network) × Words (now text) m (now words) × (patterns ≡ length (m .patterns))) ⌝ }
-    ensures { λ r. ⌜ ((m : Network) (o : Option Name) → Words (now (text .entry)) m (now (words .entry)) → patterns ≡ length (m .patterns) → SitsOr (now (text .entry)) o → nameWords o ≡ at ∷ long ∷ [] → r ≡ indexNo (indexOf (m .patterns) o)) ⌝ }
-{
-    if long == 0 {
-        return 0;
-    }
-    let name = fields::cut(text, at as usize, long as usize);
-    tables::index_number(tables::find_pattern(text, words, patterns, name))
-}
-
-fn resolve_demand(text: &[u8], s: Counts, words: &mut [u64], k: usize)
-    requires { ⌜ ((f : List Float) × Sound (now text) s (now words) f × (k < s .demands)) ⌝ }
-    ensures { λ _. ⌜ ((m : Network) (f : List Float) → Holds (now (text .entry)) m s (now (words .entry)) f
-        → Holds (now (text .entry)) (demandResolved k m) s (now (words .exit)) f) ⌝ }
-{
-    let row = tables::DEMANDS + k * tables::DEMAND_WORDS;
-    let index = pattern_index(text, words, s.patterns, words[row + 2], words[row + 3]);
-    words[row + 4] = index;
-}
-
-fn resolve_node(text: &[u8], s: Counts, words: &mut [u64], k: usize)
-    requires { ⌜ ((f : List Float) × Sound (now text) s (now words) f × (k < s .nodes)) ⌝ }
-    ensures { λ _. ⌜ ((m : Network) (f : List Float) → Holds (now (text .entry)) m s (now (words .entry)) f
-        → Holds (now (text .entry)) (nodeResolved k m) s (now (words .exit)) f) ⌝ }
-{
-    let row = tables::NODES + k * tables::NODE_WORDS;
-    if words[row + 3] != 2 {
-        return;
-    }
-    let index = pattern_index(text, words, s.patterns, words[row + 4], words[row + 5]);
-    words[row + 6] = index;
-}
-
-fn resolve_demands(text: &[u8], s: Counts, words: &mut [u64])
-    requires { ⌜ ((f : List Float) × Sound (now text) s (now words) f) ⌝ }
-    ensures { λ _. ⌜ ((m : Network) (f : List Float) → Holds (now (text .entry)) m s (now (words .entry)) f
-        → Holds (now (text .entry)) (demandsResolved m) s (now (words .exit)) f) ⌝ }
-{
-    let n = s.demands;
-    let mut k = 0;
-    while k < n {
-        resolve_demand(text, s, words, k);
-        k += 1;
-    }
-}
-
-fn resolve_nodes(text: &[u8], s: Counts, words: &mut [u64])
-    requires { ⌜ ((f : List Float) × Sound (now text) s (now words) f) ⌝ }
-    ensures { λ _. ⌜ ((m : Network) (f : List Float) → Holds (now (text .entry)) m s (now (words .entry)) f
-        → Holds (now (text .entry)) (nodesResolved m) s (now (words .exit)) f) ⌝ }
-{
-    let n = s.nodes;
-    let mut k = 0;
-    while k < n {
-        resolve_node(text, s, words, k);
-        k += 1;
-    }
-}
-
-// The place of each pattern that a demand or a reservoir names. The numbers stay as they are, whatever they hold.
-pub fn resolve_pattern_indices(text: &[u8], s: Counts, words: &mut [u64])
-    requires { ⌜ ((f : List Float) × Sound (now text) s (now words) f) ⌝ }
-    ensures { λ _. ⌜ ((m : Network) (f : List Float) → Holds (now (text .entry)) m s (now (words .entry)) f
-        → Holds (now (text .entry)) (resolved m) s (now (words .exit)) f) ⌝ }
-{
-    resolve_nodes(text, s, words);
-    resolve_demands(text, s, words);
 }

@@ -8,4 +8,3 @@ pub mod ReadLaws
 pub mod ClearLaws
 pub mod LookLaws
 pub mod AfterLaws
-pub mod BackLaws

@@ -13,8 +13,7 @@ use Rattle.scope.specs.Records.{Network, Node, NodeKind, junction, reservoir, t
 use Rattle.scope.specs.Rules.{noLink, isPipe, isPump, isValve}
 use Rattle.scope.specs.Tables.{keyOf, kindWords, linkKindWords, placed, idWords, countWords, nodeWords, nodeNumbers, linkWords, linkNumbers, pointWords, pointNumbers, multiplierWords, multiplierNumbers, demandWords, demandNumbers, ruleWords, clauseWords, clauseNumbers, recordWords}
 use Rattle.tables.specs.Layout.{nodesAt, linksAt, curvesAt, pointsAt, patternsAt, multipliersAt, demandsAt, timesAt, rulesAt, clausesAt, nodeSize, linkSize, idSize, demandSize, timeSize, ruleSize, clauseSize, nodeNumbersAt, linkNumbersAt, pointNumbersAt, multiplierNumbersAt, demandNumbersAt, clauseNumbersAt, nodeNumbersSize, linkNumbersSize, pointNumbersSize}
-use Rattle.tables.specs.Back.{noRule}
-use Rattle.tables.specs.Holding.{Sits, Each, NodeFine, LinkFine, RuleFine, Known, Words, Numbers, Row, Rows, isJunction, kindNo, linkKindNo}
+use Rattle.tables.specs.Holding.{Sits, Each, NodeFine, LinkFine, RuleFine, Known, Words, Numbers, Row, Rows, noRule, isJunction, kindNo, linkKindNo}
 use Rattle.tables.proofs.RegionLaws.{row-in}
 use Rattle.tables.proofs.BlockLaws.{get-word}
 use Rattle.tables.proofs.SizeLaws.{node-words-lie, link-words-lie, curve-words-lie, point-words-lie, pattern-words-lie, multiplier-words-lie, demand-words-lie, time-words-lie, rule-words-lie, clause-words-lie, node-numbers-lie, link-numbers-lie, point-numbers-lie, multiplier-numbers-lie, demand-numbers-lie, clause-numbers-lie}
@@ -22,7 +21,7 @@ use Rattle.tables.proofs.EmptyLaws.{words-long}
 use Rattle.tables.proofs.HoldLaws.{each-at}
 
 -- a record of one place
-one-place : {A : Type 0} (w : List A) (base i : ℕ) (d : A) {x : A} → getD w (base + i * 1 + 0) d ≡ x → getD w (base + i) d ≡ x
+pub one-place : {A : Type 0} (w : List A) (base i : ℕ) (d : A) {x : A} → getD w (base + i * 1 + 0) d ≡ x → getD w (base + i) d ≡ x
 one-place w base i d e = let at : base + i ≡ base + i * 1 + 0 = omega arith in rw at e
 
 -- ---- the words of record i

@@ -8,7 +8,7 @@ use lib.ListN.{length, getD}
 use lib.Ieee.{Float}
 use Rattle.fields.specs.Fields.{Name, part}
 pub use Rattle.fields.specs.Fields.{optIn, MayFit}
-use Rattle.scope.specs.Records.{Network, Node, NodeKind, junction, reservoir, tank, Link, LinkKind, pipe, pump, valve, Point, Multiplier, Demand, Rule, Clause, countsOf, noName}
+use Rattle.scope.specs.Records.{Network, Node, NodeKind, junction, reservoir, tank, Link, LinkKind, pipe, pump, valve, Point, Multiplier, Demand, Rule, Clause, zeroF, countsOf, noName}
 use Rattle.scope.specs.Values.{Read, good, bad}
 use Rattle.scope.specs.Sections.{roomNodes, roomLinks, roomCurves, roomPoints, roomPatterns, roomMultipliers, roomDemands, roomRules, roomClauses}
 use Rattle.scope.specs.Tables.{keyOf, blocks, wordBlocks, numberBlocks}
@@ -126,6 +126,13 @@ pub record SomeRows (text w : List ℕ) (base stride count : ℕ) : Type 0 where
 abbrev pub Below : ℕ → Found → Type 0
 Below n (At i) = i < n
 Below n Nowhere = Unit
+
+-- what stands past the end of the demands, and of the rules
+abbrev pub noDemand : Demand
+noDemand = record { node = 0; own = false; base = zeroF; pattern = none; index = none }
+
+abbrev pub noRule : Rule
+noRule = record { id = noName; priority = none; first = 0; count = 0 }
 
 abbrev pub isJunction : NodeKind → Bool
 isJunction (junction j) = true

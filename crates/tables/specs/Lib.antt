@@ -2,4 +2,3 @@
 pub mod Table
 pub mod Layout
 pub mod Holding
-pub mod Back

@@ -2,9 +2,7 @@
 use input::Input;
 use printing::count;
 use printing::newline;
-use printing::one_if;
 use printing::records;
-use printing::word;
 use printing::write;
 use scope::Survey;
 
@@ -17,18 +15,6 @@ const ROOM_LINES: usize = 65536;
 // One byte more than is read, so that a longer text is seen to be longer.
 const ROOM_TEXT: usize = 65537;
 
-// Clauses of a kind: 1 is a condition, 2 an action.
-fn clauses(words: &[u64], kind: u64) -> u64 {
-    let all = records(words, 8);
-    let mut n = 0;
-    let mut k = 0;
-    while k < all {
-        n += one_if(word(words, printing::clause_row(k), 0) == kind);
-        k += 1;
-    }
-    n
-}
-
 fn show_records(words: &[u64]) {
     write(b"records");
     count(records(words, 0) as u64);
@@ -37,8 +23,8 @@ fn show_records(words: &[u64]) {
     count(records(words, 4) as u64);
     count(records(words, 7) as u64);
     write(b"\nclauses");
-    count(clauses(words, 1));
-    count(clauses(words, 2));
+    count(printing::clauses(words, 1));
+    count(printing::clauses(words, 2));
     newline();
 }
 
@@ -79,7 +65,7 @@ fn show(text: &[u8], in_words: bool) {
     let mut numbers = [0.0f64; ROOM_NUMBERS];
     let mut classes = [0u8; ROOM_LINES];
     let mut reasons = [0u8; ROOM_LINES];
-    let s = reading::read_survey(text, &mut words, &mut numbers, &mut classes, &mut reasons);
+    let s = surveying::read_survey(text, &mut words, &mut numbers, &mut classes, &mut reasons);
     if in_words {
         explain::show_survey(text, s, &classes, &reasons);
         return;

@@ -3,7 +3,7 @@ use Rattle.fields.specs.Fields.{nameIn}
 use Rattle.scope.specs.Records.{linkIds}
 use Rattle.tables.proofs.HoldLaws.{sits-span, count-links}
 use Rattle.tables.proofs.AfterLaws.{sound-words, sound-numbers}
-use Rattle.links.specs.Lines.{kindIn}
+use Rattle.linklines.specs.Lines.{kindIn}
 use Rattle.links.specs.Storing.{endsAt}
 use Rattle.links.proofs.StoreLaws.{told-found, link-used, links-full, link-stored}
 use borrow.Author.Needs.{needs}

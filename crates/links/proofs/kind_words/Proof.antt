@@ -1,9 +1,10 @@
 use denote.Ref.{now}
 use mathlib.Core.Path.{ap}
 use mathlib.Core.List.{_∷_}
-use Rattle.links.proofs.StoreLaws.{two-words}
+use Rattle.links.proofs.StoreLaws.{name-pair}
 use Prim.Native.Nat.{ℕ}
 use mathlib.Core.List.{List}
+use Rattle.fields.specs.Fields.{optIn}
 use Rattle.scope.specs.Tables.{typeNo}
 use borrow.Author.Needs.{needs}
 use Rattle.links.proofs.kind_words.Statement.{statement}
@@ -51,10 +52,10 @@ returns : tie.Need-returns
 returns c = rw (c .before .before .kind .given .1, c .pipe-status-number .ensures)
 
 returns-2 : tie.Need-returns-2
-returns-2 c = rw (c .before .before .kind2 .given .1) (ap (λ (x : List ℕ). 2 ∷ 0 ∷ x) (two-words (now (c .before .before .before .before .before .args .text)) (c .before .before .kind2 .given .0 .0 .head) (c .name-words .ensures)))
+returns-2 c = rw (c .before .before .kind2 .given .1, c .name-words .ensures) (ap (λ (x : List ℕ). 2 ∷ 0 ∷ x) (name-pair (optIn (now (c .before .before .before .before .before .args .text)) (c .before .before .kind2 .given .0 .0 .head))))
 
 returns-3 : tie.Need-returns-3
-returns-3 c = rw (c .before .before .before .kind3 .given .1, c .valve-type-number .ensures) (ap (λ (x : List ℕ). 3 ∷ typeNo (c .before .before .before .kind3 .given .0 .0 .kind) ∷ x) (two-words (now (c .before .before .before .before .before .before .args .text)) (c .before .before .before .kind3 .given .0 .0 .curve) (c .before .name-words2 .ensures)))
+returns-3 c = rw (c .before .before .before .kind3 .given .1, c .valve-type-number .ensures, c .before .name-words2 .ensures) (ap (λ (x : List ℕ). 3 ∷ typeNo (c .before .before .before .kind3 .given .0 .0 .kind) ∷ x) (name-pair (optIn (now (c .before .before .before .before .before .before .args .text)) (c .before .before .before .kind3 .given .0 .0 .curve))))
 
 pub kind-words-spec : {M : Type 1} → statement M
 kind-words-spec =

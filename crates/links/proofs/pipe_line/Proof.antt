@@ -6,15 +6,15 @@ use lib.Seq.{length-take-le}
 use Rattle.scope.specs.Values.{good, bad}
 use Rattle.scope.specs.Links.{pipeOf, pipeStep}
 use Rattle.takers.proofs.TextLaws.{fits-text}
-use Rattle.links.specs.Lines.{NamesFit, KindFits, lineIn}
-use Rattle.links.proofs.NameLaws.{told-link}
+use Rattle.linklines.specs.Lines.{NamesFit, KindFits, lineIn}
+use Rattle.linklines.proofs.NameLaws.{told-link}
 use Rattle.links.proofs.LineLaws.{line-text}
 use borrow.Author.Needs.{needs}
 use Rattle.links.proofs.pipe_line.Statement.{statement}
 use Rattle.links.proofs.pipe_line.Tie as tie
 use Rattle.links.proofs.pipe_line.Reads as reads
 use Rattle.links.proofs.pipe_line.Lts as lts
-use Rattle.links.proofs.read_pipe.Reads as read-pipe-reads
+use Rattle.linklines.proofs.read_pipe.Reads as read-pipe-reads
 use Rattle.links.proofs.store_link.Reads as store-link-reads
 
 is-read : (c : tie.After-known-told) → (pipeOf (fieldsAt (take (c .before .before .before .before .before .before .before .before .args .end) (now (c .before .before .before .before .before .before .before .before .args .text))) (c .before .before .before .before .before .before .before .before .args .at)) ≡ good (lineIn (take (c .before .before .before .before .before .before .before .before .args .end) (now (c .before .before .before .before .before .before .before .before .args .text))) (c .before .read .given .0 .0))) × NamesFit (take (c .before .before .before .before .before .before .before .before .args .end) (now (c .before .before .before .before .before .before .before .before .args .text))) ((c .before .read .given .0 .0) .names) × KindFits (take (c .before .before .before .before .before .before .before .before .args .end) (now (c .before .before .before .before .before .before .before .before .args .text))) ((c .before .read .given .0 .0) .kind)

@@ -3,7 +3,7 @@ use mathlib.Core.Path.{refl}
 use Rattle.fields.specs.Fields.{nameIn}
 use Rattle.scope.specs.Links.{endsOf}
 use Rattle.tables.proofs.HoldLaws.{count-nodes}
-use Rattle.links.specs.Lines.{lineIn}
+use Rattle.linklines.specs.Lines.{lineIn}
 use Rattle.links.proofs.StoreLaws.{told-ends, store-no-ends, store-ends}
 use borrow.Author.Needs.{needs}
 use Rattle.links.proofs.store_link.Statement.{statement}

@@ -1,16 +1,16 @@
 use denote.Ref.{now}
-use mathlib.Core.Path.{_≡_, refl, sym, ap, _∙_}
+use mathlib.Core.Path.{refl, sym}
 use lib.ListN.{take}
 use lib.Seq.{length-take-le}
 use Rattle.fields.specs.Fields.{fieldsAt}
-use Rattle.nodes.specs.Lines.{placeOf}
+use Rattle.nodelines.specs.Lines.{placeOf}
 use Rattle.nodes.proofs.LineLaws.{place-told, place-good, place-bad}
 use borrow.Author.Needs.{needs}
 use Rattle.nodes.proofs.coordinates_line.Statement.{statement}
 use Rattle.nodes.proofs.coordinates_line.Tie as tie
 use Rattle.nodes.proofs.coordinates_line.Reads as reads
 use Rattle.nodes.proofs.coordinates_line.Lts as lts
-use Rattle.nodes.proofs.read_coordinates.Reads as read-coordinates-reads
+use Rattle.nodelines.proofs.read_coordinates.Reads as read-coordinates-reads
 use Rattle.nodes.proofs.store_coordinates.Reads as store-coordinates-reads
 
 -- src/lib.rt:619:33

@@ -1,16 +1,16 @@
 use denote.Ref.{now}
-use mathlib.Core.Path.{_≡_, refl, sym, ap, _∙_}
+use mathlib.Core.Path.{refl, sym}
 use lib.ListN.{take}
 use lib.Seq.{length-take-le}
 use Rattle.fields.specs.Fields.{fieldsAt}
-use Rattle.nodes.specs.Lines.{emitterOf}
+use Rattle.nodelines.specs.Lines.{emitterOf}
 use Rattle.nodes.proofs.LineLaws.{emitter-told, emitter-good, emitter-bad}
 use borrow.Author.Needs.{needs}
 use Rattle.nodes.proofs.emitter_line.Statement.{statement}
 use Rattle.nodes.proofs.emitter_line.Tie as tie
 use Rattle.nodes.proofs.emitter_line.Reads as reads
 use Rattle.nodes.proofs.emitter_line.Lts as lts
-use Rattle.nodes.proofs.read_emitter.Reads as read-emitter-reads
+use Rattle.nodelines.proofs.read_emitter.Reads as read-emitter-reads
 use Rattle.nodes.proofs.store_emitter.Reads as store-emitter-reads
 
 -- src/lib.rt:599:29

@@ -1,5 +1,5 @@
 use denote.Ref.{now}
-use mathlib.Core.Path.{_≡_, refl, sym, ap, _∙_}
+use mathlib.Core.Path.{refl, sym}
 use lib.ListN.{take}
 use lib.Seq.{length-take-le}
 use Rattle.fields.specs.Fields.{fieldsAt}
@@ -10,7 +10,7 @@ use Rattle.nodes.proofs.junction_line.Statement.{statement}
 use Rattle.nodes.proofs.junction_line.Tie as tie
 use Rattle.nodes.proofs.junction_line.Reads as reads
 use Rattle.nodes.proofs.junction_line.Lts as lts
-use Rattle.nodes.proofs.read_junction.Reads as read-junction-reads
+use Rattle.nodelines.proofs.read_junction.Reads as read-junction-reads
 use Rattle.nodes.proofs.store_junction.Reads as store-junction-reads
 
 -- src/lib.rt:545:30

@@ -1,9 +1,9 @@
 use denote.Ref.{now}
-use mathlib.Core.Path.{_≡_, refl, sym, ap, _∙_}
-use mathlib.Core.List.{List, [], _∷_}
+use mathlib.Core.Path.{ap, _∙_}
+use mathlib.Core.List.{List}
 use Prim.Native.Nat.{ℕ, _+_, _*_}
 use Rattle.tables.specs.Table.{splice}
-use Rattle.tables.specs.Layout.{nodesAt, nodeSize, nodeNumbersAt, nodeNumbersSize, demandsAt, demandSize, demandNumbersAt}
+use Rattle.tables.specs.Layout.{demandsAt, demandSize}
 use Rattle.fields.specs.Fields.{optIn}
 use Rattle.nodes.proofs.StoreLaws.{own-words}
 use borrow.Author.Needs.{needs}

@@ -1,11 +1,11 @@
 use denote.Ref.{now}
-use mathlib.Core.Path.{_≡_, refl, sym, ap, _∙_}
+use mathlib.Core.Path.{ap, _∙_}
 use mathlib.Core.List.{List, [], _∷_}
 use Prim.Native.Nat.{ℕ, _+_, _*_}
 use lib.Ieee.{Float}
 use lib.Ieee as Ieee
 use Rattle.tables.specs.Table.{splice}
-use Rattle.tables.specs.Layout.{nodesAt, nodeSize, nodeNumbersAt, nodeNumbersSize, demandsAt, demandSize, demandNumbersAt}
+use Rattle.tables.specs.Layout.{nodesAt, nodeSize, demandsAt, demandSize, demandNumbersAt}
 use mathlib.Core.Option.{none}
 use Rattle.fields.specs.Fields.{nameIn, optIn}
 use Rattle.nodes.specs.Storing.{newWords, ownWords}

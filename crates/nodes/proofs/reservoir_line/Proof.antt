@@ -1,5 +1,5 @@
 use denote.Ref.{now}
-use mathlib.Core.Path.{_≡_, refl, sym, ap, _∙_}
+use mathlib.Core.Path.{sym}
 use lib.ListN.{take}
 use lib.Seq.{length-take-le}
 use Rattle.fields.specs.Fields.{fieldsAt}
@@ -10,7 +10,7 @@ use Rattle.nodes.proofs.reservoir_line.Statement.{statement}
 use Rattle.nodes.proofs.reservoir_line.Tie as tie
 use Rattle.nodes.proofs.reservoir_line.Reads as reads
 use Rattle.nodes.proofs.reservoir_line.Lts as lts
-use Rattle.nodes.proofs.read_reservoir.Reads as read-reservoir-reads
+use Rattle.nodelines.proofs.read_reservoir.Reads as read-reservoir-reads
 use Rattle.nodes.proofs.store_read.Reads as store-read-reads
 
 -- src/lib.rt:565:31

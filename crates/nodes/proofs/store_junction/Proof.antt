@@ -1,5 +1,4 @@
-use denote.Ref.{now}
-use mathlib.Core.Path.{_≡_, refl, sym, ap, _∙_}
+use mathlib.Core.Path.{sym, _∙_}
 use Rattle.tables.proofs.HoldLaws.{count-nodes}
 use Rattle.tables.proofs.AfterLaws.{sound-words, sound-numbers}
 use Rattle.nodes.proofs.StoreLaws.{junction-used, nodes-full, demands-full, junction-stored}

@@ -1,5 +1,5 @@
 use denote.Ref.{now}
-use mathlib.Core.Path.{_≡_, refl, sym, ap, _∙_}
+use mathlib.Core.Path.{refl}
 use Rattle.nodes.proofs.LineLaws.{node-told, node-good, node-bad}
 use borrow.Author.Needs.{needs}
 use Rattle.nodes.proofs.store_read.Statement.{statement}

@@ -4,15 +4,16 @@ use denote.Ref.{now}
 use mathlib.Core.Path.{_≡_, refl, sym, ap, _∙_}
 use lib.ListN.{length}
 use Rattle.tables.proofs.AfterLaws.{holds-words, holds-numbers}
-use Rattle.reading.proofs.StrictLaws.{Gone, begin, fits, sound, onward, turn, halt, ended}
+use Rattle.reading.proofs.StrictLaws.{Gone, begin, fits, onward, turn, halt, ended}
+use Rattle.steps.proofs.StepLaws.{sound}
 use borrow.Author.Needs.{needs}
 use Rattle.reading.proofs.run.Statement.{statement}
 use Rattle.reading.proofs.run.Tie as tie
 use Rattle.reading.proofs.run.Reads as reads
 use Rattle.reading.proofs.run.Lts as lts
-use Rattle.reading.proofs.State.new.Reads as new-reads
-use Rattle.series.proofs.resolve_pattern_indices.Reads as resolve-pattern-indices-reads
-use Rattle.reading.proofs.step.Reads as step-reads
+use Rattle.steps.proofs.State.new.Reads as new-reads
+use Rattle.resolving.proofs.resolve_pattern_indices.Reads as resolve-pattern-indices-reads
+use Rattle.steps.proofs.step.Reads as step-reads
 
 abbrev Inv-loop : tie.InvT-loop
 Inv-loop text words₀ numbers₀ s₀ words numbers s = Gone text words numbers s

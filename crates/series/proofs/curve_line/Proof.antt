@@ -6,8 +6,8 @@ use lib.Seq.{length-take-le}
 use Rattle.fields.specs.Fields.{fieldsAt, Fits}
 use Rattle.scope.specs.Values.{good, bad}
 use Rattle.takers.proofs.TextLaws.{fits-text}
-use Rattle.series.specs.Lines.{pointOf, PointAs, pointIn}
-use Rattle.series.specs.declared.PointRead.{PointRead}
+use Rattle.serieslines.specs.Lines.{pointOf, PointAs, pointIn}
+use Rattle.serieslines.specs.declared.PointRead.{PointRead}
 use Rattle.series.proofs.StepLaws.{curve-good, curve-bad}
 use borrow.Author.Needs.{needs}
 use Rattle.series.proofs.curve_line.Statement.{statement}

@@ -7,8 +7,8 @@ use Rattle.fields.specs.Fields.{fieldsAt, Fits}
 use Rattle.scope.specs.Values.{good, bad}
 use Rattle.takers.specs.Taking.{MayFit}
 use Rattle.takers.proofs.TextLaws.{fits-text, may-fit-text}
-use Rattle.series.specs.Lines.{demandOf, DemandAs, demandIn}
-use Rattle.series.specs.declared.DemandRead.{DemandRead}
+use Rattle.serieslines.specs.Lines.{demandOf, DemandAs, demandIn}
+use Rattle.serieslines.specs.declared.DemandRead.{DemandRead}
 use Rattle.series.proofs.StepLaws.{demand-good, demand-bad}
 use borrow.Author.Needs.{needs}
 use Rattle.series.proofs.demand_line.Statement.{statement}

@@ -6,8 +6,8 @@ use lib.Seq.{length-take-le}
 use Rattle.fields.specs.Fields.{fieldsAt}
 use Rattle.scope.specs.Values.{bad}
 use Rattle.takers.proofs.TextLaws.{fits-text}
-use Rattle.series.specs.Lines.{patternOf, PatternAs, PatternIs}
-use Rattle.series.specs.declared.PatternRead.{PatternRead}
+use Rattle.serieslines.specs.Lines.{patternOf, PatternAs, PatternIs}
+use Rattle.serieslines.specs.declared.PatternRead.{PatternRead}
 use Rattle.series.proofs.StepLaws.{pattern-good, pattern-bad}
 use borrow.Author.Needs.{needs}
 use Rattle.series.proofs.pattern_line.Statement.{statement}

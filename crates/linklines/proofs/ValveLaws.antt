@@ -1,0 +1,43 @@
+-- The type and the setting of a valve. Assumes nothing.
+use Prim.Native.Nat.{ℕ}
+use mathlib.Core.Path.{_≡_, refl, subst}
+use mathlib.Core.List.{List, [], _∷_}
+use types.Run.{OneOf, miss}
+use denote.Enum.Declared.{tagOf}
+use Rattle.fields.specs.Fields.{Name, fieldsAt, Next, Past}
+use Rattle.fields.specs.declared.Field.{Field}
+use Rattle.scope.specs.declared.ValveType.{ValveType}
+use Rattle.scope.specs.declared.ValveType.the-variants.{Gpv, Tcv, Fcv, Prv, Psv, Pbv, Pcv}
+use Rattle.scope.proofs.ValveType.{the-type}
+use Rattle.scope.specs.Records.{zeroF}
+use Rattle.scope.specs.Values.{Took, swallowedFrom}
+use Rattle.scope.specs.Links as scope
+use Rattle.scope.specs.Links.{typeOf, settingTook, settingFrom}
+use Rattle.takers.proofs.TakeLaws.{optional, may-fit}
+use Rattle.linklines.specs.Lines.{TypeAs, SettingAs}
+use Rattle.linklines.specs.declared.TypeRead.{TypeRead}
+use Rattle.linklines.specs.declared.TookSetting.{TookSetting}
+use Rattle.linklines.specs.declared.TookSetting.the-variants.{Setting}
+
+pub told-type : {a b : List ℕ} {r r′ : TypeRead} → a ≡ b → r ≡ r′ → TypeAs (typeOf a) r → TypeAs (typeOf b) r′
+told-type {a} {b} {r} {r′} e q h = subst (λ (x : List ℕ). TypeAs (typeOf x) r′) e (subst (λ (x : TypeRead). TypeAs (typeOf a) x) q h)
+
+pub told-setting : (l : List ℕ) (o : Took scope.Setting) {r r′ : TookSetting} → r ≡ r′ → SettingAs l o r → SettingAs l o r′
+told-setting l o e h = subst (λ (x : TookSetting). SettingAs l o x) e h
+
+-- a GPV has a curve
+pub curve-set : {l : List ℕ} {at next : ℕ} {t : ValveType} (f : Field) → t ≡ Gpv → Next l at f → Past l at next
+    → SettingAs l (settingFrom t (fieldsAt l at)) (Setting zeroF f next)
+unfolding settingFrom
+curve-set f e n p = (rw (e, optional f n, ← p .left), may-fit f n)
+
+-- any other type a number
+pub number-set : (t : ValveType) (fs : List Name) → OneOf (1 ∷ 2 ∷ 3 ∷ 4 ∷ 5 ∷ 6 ∷ []) (tagOf the-type t) → settingFrom t fs ≡ settingTook (swallowedFrom zeroF fs)
+unfolding settingFrom
+number-set Gpv fs h = absurd (miss (1 ∷ 2 ∷ 3 ∷ 4 ∷ 5 ∷ 6 ∷ []) 0 tt h)
+number-set Tcv fs h = refl
+number-set Fcv fs h = refl
+number-set Prv fs h = refl
+number-set Psv fs h = refl
+number-set Pbv fs h = refl
+number-set Pcv fs h = refl

@@ -1,0 +1,178 @@
+use denote.Ref.{now}
+use mathlib.Core.Path.{_≡_, sym, ap, _∙_}
+use mathlib.Core.List.{_∷_}
+use Rattle.fields.specs.Fields.{Fits, fieldsAt, nameIn}
+use lib.Ieee as Ieee
+use Rattle.scope.specs.Records.{zeroF}
+use Rattle.scope.specs.Values.{took, good, bad, numberFrom, swallowedFrom}
+use Rattle.scope.specs.Links.{valveOf, typeOf, settingFrom}
+use Rattle.takers.specs.Taking.{tookNumber, reasonIn, optIn, MayFit}
+use Rattle.linklines.specs.Lines.{NamesFit, settingReason}
+use Rattle.linklines.proofs.NameLaws.{told-names, few-valve}
+use Rattle.linklines.proofs.ValveLaws.{told-type, told-setting}
+use borrow.Author.Needs.{needs}
+use Rattle.linklines.proofs.read_valve.Statement.{statement}
+use Rattle.linklines.proofs.read_valve.Tie as tie
+use Rattle.linklines.proofs.read_valve.Reads as reads
+use Rattle.linklines.proofs.read_valve.Lts as lts
+use Rattle.fields.proofs.letters_of.Reads as letters-of-reads
+use Rattle.fields.proofs.next_field.Reads as next-field-reads
+use Rattle.linklines.proofs.read_names.Reads as read-names-reads
+use Rattle.linklines.proofs.read_type.Reads as read-type-reads
+use Rattle.linklines.proofs.setting_reason.Reads as setting-reason-reads
+use Rattle.linklines.proofs.take_overriding.Reads as take-overriding-reads
+use Rattle.linklines.proofs.take_setting.Reads as take-setting-reads
+use Rattle.takers.proofs.reason_of.Reads as reason-of-reads
+use Rattle.takers.proofs.take_number.Reads as take-number-reads
+use Rattle.takers.proofs.take_swallowed.Reads as take-swallowed-reads
+
+s1 : (c : tie.After-known-told) → (fieldsAt (now (c .before .before .before .before .before .args .l)) (c .before .before .before .before .before .args .at) ≡ nameIn (now (c .before .before .before .before .before .args .l)) (c .before .three .given .0 .0 .id) ∷ nameIn (now (c .before .before .before .before .before .args .l)) (c .before .three .given .0 .0 .start) ∷ nameIn (now (c .before .before .before .before .before .args .l)) (c .before .three .given .0 .0 .end) ∷ fieldsAt (now (c .before .before .before .before .before .args .l)) (c .before .three .given .0 .0 .end .end)) × NamesFit (now (c .before .before .before .before .before .args .l)) (c .before .three .given .0 .0)
+s1 c = told-names (now (c .before .before .before .before .before .args .l)) (fieldsAt (now (c .before .before .before .before .before .args .l)) (c .before .before .before .before .before .args .at)) (c .before .three .given .1) (c .before .before .before .read-names .ensures)
+
+s2 : (c : tie.After-known-told2) → numberFrom (fieldsAt (now (c .before .before .before .before .before .before .before .before .before .args .l)) (c .before .before .before .before .before .three .given .0 .0 .end .end)) ≡ took (c .before .first .given .0 .0) (fieldsAt (now (c .before .before .before .before .before .before .before .before .before .args .l)) (c .before .first .given .0 .1 .0))
+s2 c = sym (c .before .before .before .take-number .ensures) ∙ ap (tookNumber (now (c .before .before .before .before .before .before .before .before .before .args .l))) (c .before .first .given .1)
+
+s3 : (c : tie.After-known-told3) → (fieldsAt (now (c .before .before .before .before .before .before .before .before .before .before .before .before .before .args .l)) (c .before .before .before .before .before .first .given .0 .1 .0) ≡ nameIn (now (c .before .before .before .before .before .before .before .before .before .before .before .before .before .args .l)) (c .before .f .given .0 .0) ∷ fieldsAt (now (c .before .before .before .before .before .before .before .before .before .before .before .before .before .args .l)) (c .before .f .given .0 .0 .end)) × Fits (now (c .before .before .before .before .before .before .before .before .before .before .before .before .before .args .l)) (c .before .f .given .0 .0)
+s3 c = c .before .before .before .next-field .ensures .taken _ (c .before .f .given .1)
+
+s4 : (c : tie.After-known-told4) → typeOf (nameIn (now (c .before .before .before .before .before .before .before .before .before .before .before .before .before .before .before .before .before .before .args .l)) (c .before .before .before .before .before .before .f .given .0 .0) .letters) ≡ good (c .before .known .given .0 .0)
+s4 c = told-type (c .before .before .before .before .letters-of .ensures) (c .before .known .given .1) (c .before .before .before .read-type .ensures)
+
+s5 : (c : tie.After-known-told5) → ((settingFrom (c .before .before .before .before .before .known .given .0 .0) (fieldsAt (now (c .before .before .before .before .before .before .before .before .before .before .before .before .before .before .before .before .before .before .before .before .before .before .args .l)) (c .before .before .before .before .before .before .before .before .before .before .f .given .0 .0 .end))) ≡ took (record { value = c .before .second .given .0 .0; curve = optIn (now (c .before .before .before .before .before .before .before .before .before .before .before .before .before .before .before .before .before .before .before .before .before .before .args .l)) (c .before .second .given .0 .1 .0) }) (fieldsAt (now (c .before .before .before .before .before .before .before .before .before .before .before .before .before .before .before .before .before .before .before .before .before .before .args .l)) (c .before .second .given .0 .1 .1 .0))) × MayFit (now (c .before .before .before .before .before .before .before .before .before .before .before .before .before .before .before .before .before .before .before .before .before .before .args .l)) (c .before .second .given .0 .1 .0)
+s5 c = told-setting (now (c .before .before .before .before .before .before .before .before .before .before .before .before .before .before .before .before .before .before .before .before .before .before .args .l)) (settingFrom (c .before .before .before .before .before .known .given .0 .0) (fieldsAt (now (c .before .before .before .before .before .before .before .before .before .before .before .before .before .before .before .before .before .before .before .before .before .before .args .l)) (c .before .before .before .before .before .before .before .before .before .before .f .given .0 .0 .end))) (c .before .second .given .1) (c .before .before .before .take-setting .ensures)
+
+s6 : (c : tie.After-known-told6) → swallowedFrom zeroF (fieldsAt (now (c .before .before .before .before .before .before .before .before .before .before .before .before .before .before .before .before .before .before .before .before .before .before .before .before .before .before .args .l)) (c .before .before .before .before .before .second .given .0 .1 .1 .0)) ≡ took (c .before .third .given .0 .0) (fieldsAt (now (c .before .before .before .before .before .before .before .before .before .before .before .before .before .before .before .before .before .before .before .before .before .before .before .before .before .before .args .l)) (c .before .third .given .0 .1 .0))
+unfolding Ieee.ofBits
+s6 c = sym (c .before .before .before .take-swallowed .ensures) ∙ ap (tookNumber (now (c .before .before .before .before .before .before .before .before .before .before .before .before .before .before .before .before .before .before .before .before .before .before .before .before .before .before .args .l))) (c .before .third .given .1)
+
+read-names-requires : tie.Need-read-names-requires
+read-names-requires c κs = search needs
+
+enum-known-three : tie.Need-enum-known-three
+enum-known-three c = search needs
+
+enum-told : tie.Need-enum-told
+enum-told c = search needs
+
+returns : tie.Need-returns
+unfolding valveOf
+returns c = few-valve (fieldsAt (now (c .before .before .before .before .args .l)) (c .before .before .before .before .args .at)) (told-names (now (c .before .before .before .before .args .l)) (fieldsAt (now (c .before .before .before .before .args .l)) (c .before .before .before .before .args .at)) (c .enum-told .given .1) (c .before .before .read-names .ensures))
+
+take-number-requires : tie.Need-take-number-requires
+take-number-requires c κs = search needs
+
+enum-known-first : tie.Need-enum-known-first
+enum-known-first c = search needs
+
+enum-told-2 : tie.Need-enum-told-2
+enum-told-2 c = search needs
+
+reason-of-requires : tie.Need-reason-of-requires
+reason-of-requires c κs = search needs
+
+returns-2 : tie.Need-returns-2
+unfolding valveOf
+returns-2 c = rw (s1 (c .before .before .before .before) .0, sym (c .before .before .before .take-number .ensures) ∙ ap (tookNumber (now (c .before .before .before .before .before .before .before .before .before .args .l))) (c .before .enum-told2 .given .1)) (ap bad (sym (c .reason-of .ensures ∙ ap reasonIn (c .before .enum-told2 .given .1))))
+
+next-field-requires : tie.Need-next-field-requires
+next-field-requires c κs = search needs
+
+enum-known-f : tie.Need-enum-known-f
+enum-known-f c = search needs
+
+enum-told-3 : tie.Need-enum-told-3
+enum-told-3 c = search needs
+
+returns-3 : tie.Need-returns-3
+unfolding valveOf
+returns-3 c = rw (s1 (c .before .before .before .before .before .before .before) .0, s2 (c .before .before .before), c .before .before .next-field .ensures .nothing (c .enum-told3 .given .1))
+
+letters-of-requires : tie.Need-letters-of-requires
+letters-of-requires c κs = search needs
+
+read-type-requires : tie.Need-read-type-requires
+read-type-requires c κs = search needs
+
+enum-known-known : tie.Need-enum-known-known
+enum-known-known c = search needs
+
+enum-told-4 : tie.Need-enum-told-4
+enum-told-4 c = search needs
+
+returns-4 : tie.Need-returns-4
+unfolding valveOf
+returns-4 c = rw (s1 (c .before .before .before .before .before .before .before .before .before .before .before .before) .0, s2 (c .before .before .before .before .before .before .before .before), s3 (c .before .before .before .before) .0, told-type (c .before .before .before .letters-of .ensures) (c .enum-told4 .given .1) (c .before .before .read-type .ensures))
+
+take-setting-requires : tie.Need-take-setting-requires
+take-setting-requires c κs = search needs
+
+enum-known-second : tie.Need-enum-known-second
+enum-known-second c = search needs
+
+enum-told-5 : tie.Need-enum-told-5
+enum-told-5 c = search needs
+
+setting-reason-requires : tie.Need-setting-reason-requires
+setting-reason-requires c κs = search needs
+
+returns-5 : tie.Need-returns-5
+unfolding valveOf
+returns-5 c = rw (s1 (c .before .before .before .before .before .before .before .before .before .before .before .before .before .before .before .before .before) .0, s2 (c .before .before .before .before .before .before .before .before .before .before .before .before .before), s3 (c .before .before .before .before .before .before .before .before .before) .0, s4 (c .before .before .before .before), told-setting (now (c .before .before .before .before .before .before .before .before .before .before .before .before .before .before .before .before .before .before .before .before .before .before .args .l)) (settingFrom (c .before .before .before .before .before .known .given .0 .0) (fieldsAt (now (c .before .before .before .before .before .before .before .before .before .before .before .before .before .before .before .before .before .before .before .before .before .before .args .l)) (c .before .before .before .before .before .before .before .before .before .before .f .given .0 .0 .end))) (c .before .enum-told5 .given .1) (c .before .before .before .take-setting .ensures)) (ap bad (sym (c .setting-reason .ensures ∙ ap settingReason (c .before .enum-told5 .given .1))))
+
+take-swallowed-requires : tie.Need-take-swallowed-requires
+take-swallowed-requires c κs = search needs
+
+enum-known-third : tie.Need-enum-known-third
+enum-known-third c = search needs
+
+enum-told-6 : tie.Need-enum-told-6
+enum-told-6 c = search needs
+
+reason-of-requires-2 : tie.Need-reason-of-requires-2
+reason-of-requires-2 c κs = search needs
+
+returns-6 : tie.Need-returns-6
+unfolding valveOf Ieee.ofBits
+returns-6 c = rw (s1 (c .before .before .before .before .before .before .before .before .before .before .before .before .before .before .before .before .before .before .before .before .before) .0, s2 (c .before .before .before .before .before .before .before .before .before .before .before .before .before .before .before .before .before), s3 (c .before .before .before .before .before .before .before .before .before .before .before .before .before) .0, s4 (c .before .before .before .before .before .before .before .before), s5 (c .before .before .before .before) .0, sym (c .before .before .before .take-swallowed .ensures) ∙ ap (tookNumber (now (c .before .before .before .before .before .before .before .before .before .before .before .before .before .before .before .before .before .before .before .before .before .before .before .before .before .before .args .l))) (c .before .enum-told6 .given .1)) (ap bad (sym (c .reason-of2 .ensures ∙ ap reasonIn (c .before .enum-told6 .given .1))))
+
+take-overriding-requires : tie.Need-take-overriding-requires
+take-overriding-requires c κs = search needs
+
+returns-7 : tie.Need-returns-7
+unfolding valveOf Ieee.ofBits
+returns-7 c = (rw (s1 (c .before .before .before .before .before .before .before .before .before .before .before .before .before .before .before .before .before .before .before .before .before .before) .0, s2 (c .before .before .before .before .before .before .before .before .before .before .before .before .before .before .before .before .before .before), s3 (c .before .before .before .before .before .before .before .before .before .before .before .before .before .before) .0, s4 (c .before .before .before .before .before .before .before .before .before), s5 (c .before .before .before .before .before) .0, s6 (c .before), c .take-overriding .ensures .is), s1 (c .before .before .before .before .before .before .before .before .before .before .before .before .before .before .before .before .before .before .before .before .before .before) .1, c .take-overriding .ensures .fits (s5 (c .before .before .before .before .before) .1))
+
+pub read-valve-spec : {M : Type 1} → statement M
+read-valve-spec =
+    tie.close
+    (tie.spec
+    read-names-requires
+    enum-known-three
+    enum-told
+    returns
+    take-number-requires
+    enum-known-first
+    enum-told-2
+    reason-of-requires
+    returns-2
+    next-field-requires
+    enum-known-f
+    enum-told-3
+    returns-3
+    letters-of-requires
+    read-type-requires
+    enum-known-known
+    enum-told-4
+    returns-4
+    take-setting-requires
+    enum-known-second
+    enum-told-5
+    setting-reason-requires
+    returns-5
+    take-swallowed-requires
+    enum-known-third
+    enum-told-6
+    reason-of-requires-2
+    returns-6
+    take-overriding-requires
+    returns-7)

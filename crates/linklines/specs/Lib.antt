@@ -1,0 +1,2 @@
+-- What the contracts of this crate, and of links, cite.
+pub mod Lines

@@ -1,0 +1,259 @@
+// How often the stored rules close, open, activate and set links: of a rule, of a link, of all rules. The crew sheet stands on these counts.
+ghost use mathlib.Core.Path.{_≡_};
+ghost use mathlib.Core.Bool.{_&&_};
+ghost use mathlib.Core.List.{List};
+ghost use Prim.Native.Nat.{_-_, _≤_};
+ghost use lib.Ieee.{Float};
+ghost use lib.ListN.{length, take, drop};
+ghost use Rattle.scope.specs.Records.{Network};
+ghost use Rattle.stored.specs.Back.{Stands};
+ghost use Rattle.moves.specs.Moves.{Tallied, isBranch, isAt, chosen, movesOf, Few, larger, ruleMoves, linkMoves, allMoves, made, madeAt, madeInAll};
+ghost use Rattle.moves.specs.Steps.{withStatus, withMove, withClause};
+use scope::Action;
+use scope::LinkStatus;
+use scope::Value;
+use stored::Clause;
+
+// At most so many of each are stored.
+const ROOM_CLAUSES: usize = 512;
+
+const ROOM_LINKS: usize = 256;
+
+// How many actions give the status CLOSED, OPEN and ACTIVE, and how many a setting.
+pub struct Moves {
+    pub closes: usize,
+    pub opens: usize,
+    pub activates: usize,
+    pub sets: usize,
+}
+
+// Whose actions are counted: those of any link, or of the link at a place.
+enum Which {
+    Any,
+    One(usize),
+}
+
+// ---- one clause
+
+fn is_branch(of: bool, otherwise: bool) -> bool
+    ensures { λ r. ⌜ r ≡ isBranch otherwise of ⌝ }
+{
+    if otherwise { of } else { !of }
+}
+
+fn is_at(link: usize, which: Which) -> bool
+    ensures { λ r. ⌜ r ≡ isAt which link ⌝ }
+{
+    match which {
+        Which::Any => true,
+        Which::One(i) => link == i,
+    }
+}
+
+fn is_chosen(a: Action, which: Which, otherwise: bool) -> bool
+    ensures { λ r. ⌜ r ≡ (isBranch otherwise (a .otherwise) && isAt which (a .link)) ⌝ }
+{
+    if is_branch(a.otherwise, otherwise) {
+        return is_at(a.link, which);
+    }
+    false
+}
+
+fn with_status(n: Moves, status: LinkStatus) -> Moves
+    requires { ⌜ Few 511 n ⌝ }
+    ensures { λ r. ⌜ r ≡ withStatus n status ⌝ }
+{
+    let mut next = n;
+    match status {
+        LinkStatus::Closed => {
+            next.closes += 1;
+        }
+        LinkStatus::Open => {
+            next.opens += 1;
+        }
+        LinkStatus::Active => {
+            next.activates += 1;
+        }
+    }
+    next
+}
+
+fn with_move(n: Moves, value: Value) -> Moves
+    requires { ⌜ Few 511 n ⌝ }
+    ensures { λ r. ⌜ r ≡ withMove n value ⌝ }
+{
+    match value {
+        Value::Status(s) => with_status(n, s),
+        Value::Number(_) => Moves {
+            closes: n.closes,
+            opens: n.opens,
+            activates: n.activates,
+            sets: n.sets + 1,
+        },
+    }
+}
+
+// The counts with what a clause adds to them.
+fn with_clause(n: Moves, clause: Clause, which: Which, otherwise: bool) -> Moves
+    requires { ⌜ Few 511 n ⌝ }
+    ensures { λ r. ⌜ r ≡ withClause which otherwise n clause ⌝ }
+{
+    if let Clause::Action(a) = clause {
+        if is_chosen(a, which, otherwise) {
+            let value = a.value;
+            return with_move(n, value);
+        }
+    }
+    n
+}
+
+// ---- a range of clauses
+
+// The moves of the clauses from place `first` up to `end`.
+fn moves_between(
+    words: &[u64],
+    numbers: &[f64],
+    first: usize,
+    end: usize,
+    which: Which,
+    otherwise: bool,
+) -> Moves
+    requires { ⌜ end ≤ 512 ⌝ }
+    ensures { λ r. ⌜ Few 512 r ⌝ }
+    ensures { λ r. ⌜ ((m : Network) → Stands m (now (words .entry)) (now (numbers .entry)) → end ≤ length (m .clauses) → r ≡ movesOf (chosen which otherwise) (take (end - first) (drop first (m .clauses)))) ⌝ }
+{
+    let mut n = Moves {
+        closes: 0,
+        opens: 0,
+        activates: 0,
+        sets: 0,
+    };
+    let mut k = first;
+    while k < end {
+        let clause = stored::clause_at(words, numbers, k);
+        n = with_clause(n, clause, which, otherwise);
+        k += 1;
+    }
+    n
+}
+
+fn least(a: usize, b: usize) -> usize
+    ensures { λ r. ⌜ (r ≤ a) × (r ≤ b) × (a ≤ b → r ≡ a) × (b ≤ a → r ≡ b) ⌝ }
+{
+    if a < b { a } else { b }
+}
+
+// How many clauses there are.
+fn clause_count(words: &[u64]) -> usize
+    ensures { λ r. ⌜ r ≤ 512 ⌝ }
+    ensures { λ r. ⌜ ((m : Network) (f : List Float) → Tallied m (now (words .entry)) f → r ≡ length (m .clauses)) ⌝ }
+{
+    let counts = stored::counts_at(words);
+    least(counts.clauses, ROOM_CLAUSES)
+}
+
+// How many links there are.
+fn link_count(words: &[u64]) -> usize
+    ensures { λ r. ⌜ r ≤ 256 ⌝ }
+    ensures { λ r. ⌜ ((m : Network) (f : List Float) → Tallied m (now (words .entry)) f → r ≡ length (m .links)) ⌝ }
+{
+    let counts = stored::counts_at(words);
+    least(counts.links, ROOM_LINKS)
+}
+
+// ---- of a rule, of a link, of all rules
+
+// Where `count` clauses from `first` on end, if there are `all`.
+fn end_of(first: usize, count: usize, all: usize) -> usize
+    ensures { λ r. ⌜ (r ≤ all) × (all - first ≤ count → r ≡ all) × (count ≤ all - first → r - first ≡ count) ⌝ }
+{
+    if all <= first {
+        return all;
+    }
+    if all - first <= count {
+        return all;
+    }
+    first + count
+}
+
+// The moves of rule number i, under THEN or, where `otherwise`, under ELSE.
+pub fn rule_moves(words: &[u64], numbers: &[f64], i: usize, otherwise: bool) -> Moves
+    ensures { λ r. ⌜ Few 512 r ⌝ }
+    ensures { λ r. ⌜ ((m : Network) → Tallied m (now (words .entry)) (now (numbers .entry)) → r ≡ ruleMoves m i otherwise) ⌝ }
+{
+    let rule = stored::rule_at(words, i);
+    let end = end_of(rule.first, rule.count, clause_count(words));
+    moves_between(words, numbers, rule.first, end, Which::Any, otherwise)
+}
+
+// The moves of link number i under all rules.
+pub fn link_moves(words: &[u64], numbers: &[f64], i: usize, otherwise: bool) -> Moves
+    ensures { λ r. ⌜ Few 512 r ⌝ }
+    ensures { λ r. ⌜ ((m : Network) → Tallied m (now (words .entry)) (now (numbers .entry)) → r ≡ linkMoves m i otherwise) ⌝ }
+{
+    moves_between(
+        words,
+        numbers,
+        0,
+        clause_count(words),
+        Which::One(i),
+        otherwise,
+    )
+}
+
+// The moves of all rules.
+pub fn all_moves(words: &[u64], numbers: &[f64], otherwise: bool) -> Moves
+    ensures { λ r. ⌜ Few 512 r ⌝ }
+    ensures { λ r. ⌜ ((m : Network) → Tallied m (now (words .entry)) (now (numbers .entry)) → r ≡ allMoves m otherwise) ⌝ }
+{
+    moves_between(
+        words,
+        numbers,
+        0,
+        clause_count(words),
+        Which::Any,
+        otherwise,
+    )
+}
+
+// ---- what a crew does when every closure is opened again
+
+fn larger_of(a: usize, b: usize) -> usize
+    ensures { λ r. ⌜ r ≡ larger a b ⌝ }
+{
+    if a < b { b } else { a }
+}
+
+fn made_by(then: Moves, otherwise: Moves) -> usize
+    requires { ⌜ Few 512 then × Few 512 otherwise ⌝ }
+    ensures { λ r. ⌜ r ≤ 2048 ⌝ }
+    ensures { λ r. ⌜ r ≡ made then otherwise ⌝ }
+{
+    let closings = then.closes + otherwise.closes;
+    let openings = then.opens + otherwise.opens;
+    closings + larger_of(closings, openings)
+}
+
+// At link number i.
+pub fn link_made(words: &[u64], numbers: &[f64], i: usize) -> usize
+    ensures { λ r. ⌜ r ≤ 2048 ⌝ }
+    ensures { λ r. ⌜ ((m : Network) → Tallied m (now (words .entry)) (now (numbers .entry)) → r ≡ madeAt m i) ⌝ }
+{
+    let then = link_moves(words, numbers, i, false);
+    let otherwise = link_moves(words, numbers, i, true);
+    made_by(then, otherwise)
+}
+
+// At all links.
+pub fn all_made(words: &[u64], numbers: &[f64]) -> usize
+    ensures { λ r. ⌜ ((m : Network) → Tallied m (now (words .entry)) (now (numbers .entry)) → r ≡ madeInAll m) ⌝ }
+{
+    let all = link_count(words);
+    let mut n = 0;
+    let mut i = 0;
+    while i < all {
+        n += link_made(words, numbers, i);
+        i += 1;
+    }
+    n
+}

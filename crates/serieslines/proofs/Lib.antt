@@ -1,0 +1,2 @@
+-- What the proofs of this crate, and of series, use.
+pub mod PatternLaws

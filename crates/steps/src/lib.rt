@@ -1,0 +1,388 @@
+// One line of a text: what it does to a reading, and to the tables that the caller lends.
+ghost use mathlib.Core.Path.{_≡_};
+ghost use mathlib.Core.Bool.{true, false, cond};
+ghost use Prim.Native.Nat.{_+_, _≤_, _<_};
+ghost use lib.ListN.{length, take, drop, set};
+ghost use Rattle.fields.specs.Fields.{fieldsAt};
+ghost use Rattle.fields.specs.Lines.{lineLen};
+ghost use Rattle.lines.specs.Reader.{act, step, empty, start, other, closes, shut};
+ghost use Rattle.lines.specs.Text.{bodyAt};
+ghost use Rattle.scope.specs.Sections.{isRules};
+ghost use Rattle.scope.specs.Answers.{reasonNo};
+ghost use Rattle.scope.specs.Records.{Network, noNetwork, countsOf};
+ghost use Rattle.scope.specs.Lines.{sortOf, inp};
+ghost use Rattle.tables.specs.Holding.{Holds, Sound, After};
+ghost use Rattle.steps.specs.Held.{passesOver, lineStep, Fits, Plain, Goes, ownLine, movedTo, joinedTo, shutTo, newState};
+use headers::Sort;
+use scope::Counts;
+use scope::Reason;
+use scope::Section;
+use tables::Kept;
+
+// The classes of lines.
+pub const BLANK: u8 = 1;
+
+pub const HEADER: u8 = 2;
+
+pub const PASSED: u8 = 3;
+
+pub const TAKEN: u8 = 4;
+
+pub const REFUSED: u8 = 5;
+
+pub const RULE_TAKEN: u8 = 6;
+
+pub const RULE_REFUSED: u8 = 7;
+
+pub const RULE_OPEN: u8 = 8;
+
+// The reading: the section, the open group by its first line's place and number, the counts, and the next line.
+pub struct State {
+    pub section: Section,
+    pub grouped: bool,
+    pub first: usize,
+    pub no: usize,
+    pub counts: Counts,
+    pub at: usize,
+    pub line: usize,
+}
+
+// What a line did: its class, the class of the group that it closed or 0, the number of a refusal or 0, and the piece's line.
+pub struct Turn {
+    pub state: State,
+    pub class: u8,
+    pub closed: u8,
+    pub reason: u8,
+    pub piece: usize,
+}
+
+pub fn reason_number(r: Reason) -> u8
+    ensures { λ n. ⌜ n ≡ reasonNo r ⌝ }
+{
+    match r {
+        Reason::Missing => 1,
+        Reason::Malformed => 2,
+        Reason::Used => 3,
+        Reason::NotFound => 4,
+        Reason::WrongKind => 5,
+        Reason::Falling => 6,
+        Reason::Unknown => 7,
+        Reason::NoCondition => 8,
+        Reason::NoAction => 9,
+        Reason::NoId => 10,
+        Reason::TooLong => 20,
+        Reason::HighByte => 21,
+        Reason::Beyond => 22,
+        Reason::Full => 23,
+        Reason::SmallTable => 28,
+    }
+}
+
+pub fn no_counts() -> Counts
+    ensures { λ r. ⌜ r ≡ countsOf noNetwork ⌝ }
+{
+    Counts {
+        nodes: 0,
+        links: 0,
+        curves: 0,
+        points: 0,
+        patterns: 0,
+        multipliers: 0,
+        demands: 0,
+        rules: 0,
+        clauses: 0,
+    }
+}
+
+// ---- the state, one line on
+
+impl State {
+    pub fn new() -> Self
+        ensures { λ r. ⌜ r ≡ newState ⌝ }
+    {
+        let counts = no_counts();
+        State {
+            section: Section::Passed,
+            grouped: false,
+            first: 0,
+            no: 0,
+            counts,
+            at: 0,
+            line: 0,
+        }
+    }
+
+    // Past the line that ends at `e`, in a section, with the counts after it.
+    fn moved(self, section: Section, counts: Counts, e: usize) -> Self
+        requires { ⌜ self .line < 65536 ⌝ }
+        ensures { λ r. ⌜ r ≡ movedTo self section counts e ⌝ }
+    {
+        State {
+            section,
+            grouped: self.grouped,
+            first: self.first,
+            no: self.no,
+            counts,
+            at: e,
+            line: self.line + 1,
+        }
+    }
+
+    // The line joins the open group, or opens one.
+    fn joined(self, e: usize) -> Self
+        requires { ⌜ self .line < 65536 ⌝ }
+        ensures { λ r. ⌜ r ≡ joinedTo self e ⌝ }
+    {
+        let section = self.section;
+        let counts = self.counts;
+        if self.grouped {
+            return State {
+                section,
+                grouped: true,
+                first: self.first,
+                no: self.no,
+                counts,
+                at: e,
+                line: self.line + 1,
+            };
+        }
+        State {
+            section,
+            grouped: true,
+            first: self.at,
+            no: self.line + 1,
+            counts,
+            at: e,
+            line: self.line + 1,
+        }
+    }
+
+    // The group is shut.
+    fn shut(self, counts: Counts, e: usize) -> Self
+        requires { ⌜ self .line < 65536 ⌝ }
+        ensures { λ r. ⌜ r ≡ shutTo self counts e ⌝ }
+    {
+        let section = self.section;
+        State {
+            section,
+            grouped: false,
+            first: 0,
+            no: 0,
+            counts,
+            at: e,
+            line: self.line + 1,
+        }
+    }
+}
+
+// ---- one line
+
+// Hands a line to the reader of its section.
+fn store_line(
+    section: Section,
+    text: &[u8],
+    at: usize,
+    end: usize,
+    s: Counts,
+    words: &mut [u64],
+    numbers: &mut [f64],
+) -> Kept
+    requires { ⌜ Sound (now text) s (now words) (now numbers) × (end ≤ length (now text)) ⌝ }
+    ensures { λ r. ⌜ ((m : Network) → Holds (now (text .entry)) m s (now (words .entry)) (now (numbers .entry))
+        → After (now (text .entry)) (lineStep section (fieldsAt (take end (now (text .entry))) at) m) r (now (words .entry)) (now (numbers .entry)) (now (words .exit)) (now (numbers .exit))) ⌝ }
+{
+    match section {
+        Section::Junctions => nodes::junction_line(text, at, end, s, words, numbers),
+        Section::Reservoirs => nodes::reservoir_line(text, at, end, s, words, numbers),
+        Section::Tanks => nodes::tank_line(text, at, end, s, words, numbers),
+        Section::Pipes => links::pipe_line(text, at, end, s, words, numbers),
+        Section::Pumps => links::pump_line(text, at, end, s, words, numbers),
+        Section::Valves => links::valve_line(text, at, end, s, words, numbers),
+        Section::Curves => series::curve_line(text, at, end, s, words, numbers),
+        Section::Patterns => series::pattern_line(text, at, end, s, words, numbers),
+        Section::Demands => series::demand_line(text, at, end, s, words, numbers),
+        Section::Emitters => nodes::emitter_line(text, at, end, s, words, numbers),
+        Section::Coordinates => nodes::coordinates_line(text, at, end, s, words, numbers),
+        Section::Times => timing::times_line(text, at, end, s, words, numbers),
+        Section::Rules => Kept::Stored(s),
+        Section::Passed => Kept::Stored(s),
+    }
+}
+
+// The class of the line that closes a group: the group's, or blank.
+fn own_class(dropped: bool, k: u8) -> u8
+    ensures { λ r. ⌜ r ≡ cond dropped k 1 ⌝ }
+{
+    if dropped { k } else { BLANK }
+}
+
+// The open group is closed, at a RULE line, which is dropped, or at a blank one.
+fn close(
+    text: &[u8],
+    s: State,
+    e: usize,
+    dropped: bool,
+    words: &mut [u64],
+    numbers: &mut [f64],
+) -> Turn
+    requires { ⌜ Fits (now text) s (now words) (now numbers) × (e ≡ s .at + lineLen (drop (s .at) (now text))) × (s .grouped ≡ true) ⌝ }
+    ensures { λ r. ⌜ Goes (now (text .entry)) s (now (words .entry)) (now (numbers .entry)) (λ m l. closes (shut inp m) (ownLine dropped (m .sec))) r (now (words .exit)) (now (numbers .exit)) ⌝ }
+{
+    let first = s.first;
+    let no = s.no;
+    let at = s.at;
+    let counts = s.counts;
+    let k = rules::close_group(text, first, at, counts, words, numbers);
+    match k {
+        Kept::Stored(c) => Turn {
+            state: s.shut(c, e),
+            class: own_class(dropped, RULE_TAKEN),
+            closed: RULE_TAKEN,
+            reason: 0,
+            piece: no,
+        },
+        Kept::Refused(r) => Turn {
+            state: s.shut(counts, e),
+            class: own_class(dropped, RULE_REFUSED),
+            closed: RULE_REFUSED,
+            reason: reason_number(r),
+            piece: no,
+        },
+    }
+}
+
+// A line that does nothing but perhaps set the section.
+fn still(s: State, section: Section, e: usize, class: u8) -> Turn
+    requires { ⌜ s .line < 65536 ⌝ }
+    ensures { λ r. ⌜ r ≡ record { state = movedTo s section (s .counts) e; class = class; closed = 0; reason = 0; piece = 0 } ⌝ }
+{
+    let counts = s.counts;
+    Turn {
+        state: s.moved(section, counts, e),
+        class,
+        closed: 0,
+        reason: 0,
+        piece: 0,
+    }
+}
+
+// A line of a section that stores: it is cut at its first `;`.
+fn filed(text: &[u8], s: State, e: usize, words: &mut [u64], numbers: &mut [f64]) -> Turn
+    requires { ⌜ Fits (now text) s (now words) (now numbers) × (e ≡ s .at + lineLen (drop (s .at) (now text))) × Plain (sortOf (bodyAt (now text) (s .at)))
+        × (isRules (s .section) ≡ false) × (passesOver (s .section) ≡ false) ⌝ }
+    ensures { λ r. ⌜ Goes (now (text .entry)) s (now (words .entry)) (now (numbers .entry)) (λ m l. act inp false other (isRules (m .sec)) m l) r (now (words .exit)) (now (numbers .exit)) ⌝ }
+{
+    let at = s.at;
+    let section = s.section;
+    let counts = s.counts;
+    let end = fields::cut_end(&text[..e], at);
+    let k = store_line(section, text, at, end, counts, words, numbers);
+    match k {
+        Kept::Stored(c) => Turn {
+            state: s.moved(section, c, e),
+            class: TAKEN,
+            closed: 0,
+            reason: 0,
+            piece: s.line + 1,
+        },
+        Kept::Refused(r) => Turn {
+            state: s.moved(section, counts, e),
+            class: REFUSED,
+            closed: 0,
+            reason: reason_number(r),
+            piece: s.line + 1,
+        },
+    }
+}
+
+fn passes_over(s: Section) -> bool
+    ensures { λ r. ⌜ r ≡ passesOver s ⌝ }
+{
+    match s {
+        Section::Junctions => false,
+        Section::Reservoirs => false,
+        Section::Tanks => false,
+        Section::Pipes => false,
+        Section::Pumps => false,
+        Section::Valves => false,
+        Section::Curves => false,
+        Section::Patterns => false,
+        Section::Demands => false,
+        Section::Emitters => false,
+        Section::Coordinates => false,
+        Section::Times => false,
+        Section::Rules => false,
+        Section::Passed => true,
+    }
+}
+
+// A line that is not blank, no header, and closes nothing.
+fn plain(text: &[u8], s: State, e: usize, words: &mut [u64], numbers: &mut [f64]) -> Turn
+    requires { ⌜ Fits (now text) s (now words) (now numbers) × (e ≡ s .at + lineLen (drop (s .at) (now text))) × Plain (sortOf (bodyAt (now text) (s .at))) ⌝ }
+    ensures { λ r. ⌜ Goes (now (text .entry)) s (now (words .entry)) (now (numbers .entry)) (λ m l. act inp false other (isRules (m .sec)) m l) r (now (words .exit)) (now (numbers .exit)) ⌝ }
+{
+    let section = s.section;
+    if headers::in_rules(section) {
+        return Turn {
+            state: s.joined(e),
+            class: RULE_OPEN,
+            closed: 0,
+            reason: 0,
+            piece: 0,
+        };
+    }
+    if passes_over(section) {
+        return still(s, section, e, PASSED);
+    }
+    filed(text, s, e, words, numbers)
+}
+
+// A blank line closes the open group.
+fn blank(text: &[u8], s: State, e: usize, words: &mut [u64], numbers: &mut [f64]) -> Turn
+    requires { ⌜ Fits (now text) s (now words) (now numbers) × (e ≡ s .at + lineLen (drop (s .at) (now text))) × (sortOf (bodyAt (now text) (s .at)) ≡ empty) ⌝ }
+    ensures { λ r. ⌜ Goes (now (text .entry)) s (now (words .entry)) (now (numbers .entry)) (λ m l. act inp false empty (isRules (m .sec)) m l) r (now (words .exit)) (now (numbers .exit)) ⌝ }
+{
+    if s.grouped {
+        return close(text, s, e, false, words, numbers);
+    }
+    let section = s.section;
+    still(s, section, e, BLANK)
+}
+
+// Whether a RULE line would close a group.
+fn ends(s: State) -> bool
+    ensures { λ r. ⌜ r ≡ cond (isRules (s .section)) (s .grouped) false ⌝ }
+{
+    let section = s.section;
+    if headers::in_rules(section) {
+        return s.grouped;
+    }
+    false
+}
+
+// A line that starts with RULE closes the open group, in RULES, and is dropped.
+fn starting(text: &[u8], s: State, e: usize, words: &mut [u64], numbers: &mut [f64]) -> Turn
+    requires { ⌜ Fits (now text) s (now words) (now numbers) × (e ≡ s .at + lineLen (drop (s .at) (now text))) × Plain (sortOf (bodyAt (now text) (s .at))) ⌝ }
+    ensures { λ r. ⌜ Goes (now (text .entry)) s (now (words .entry)) (now (numbers .entry)) (λ m l. act inp false start (isRules (m .sec)) m l) r (now (words .exit)) (now (numbers .exit)) ⌝ }
+{
+    if ends(s) {
+        return close(text, s, e, true, words, numbers);
+    }
+    plain(text, s, e, words, numbers)
+}
+
+// The next line.
+pub fn step(text: &[u8], s: State, words: &mut [u64], numbers: &mut [f64]) -> Turn
+    requires { ⌜ Fits (now text) s (now words) (now numbers) ⌝ }
+    ensures { λ r. ⌜ Goes (now (text .entry)) s (now (words .entry)) (now (numbers .entry)) (step inp false) r (now (words .exit)) (now (numbers .exit)) ⌝ }
+{
+    let at = s.at;
+    let e = fields::line_end(text, at);
+    let k = headers::sort_of(&text[..e], at);
+    match k {
+        Sort::Empty => blank(text, s, e, words, numbers),
+        Sort::Heading(x) => still(s, x, e, HEADER),
+        Sort::Start => starting(text, s, e, words, numbers),
+        Sort::Other => plain(text, s, e, words, numbers),
+    }
+}

@@ -1,0 +1,28 @@
+use denote.Ref.{now}
+use mathlib.Core.Path.{sym, ap, _∙_}
+use lib.ListN.{length}
+use Rattle.tables.specs.Holding.{noRule}
+use Rattle.stored.specs.Back.{ruleBack}
+use Rattle.stored.proofs.PastLaws.{room-is, past-words}
+use borrow.Author.Needs.{needs}
+use Rattle.stored.proofs.rule_at.Statement.{statement}
+use Rattle.stored.proofs.rule_at.Tie as tie
+use Rattle.stored.proofs.rule_at.Reads as reads
+use Rattle.stored.proofs.rule_at.Lts as lts
+use Rattle.stored.proofs.has_room.Reads as has-room-reads
+use Rattle.stored.proofs.rule_row.Reads as rule-row-reads
+
+has-room-requires : tie.Need-has-room-requires
+has-room-requires c κs = search needs
+
+rule-row-requires : tie.Need-rule-row-requires
+rule-row-requires c κs = room-is (length (now (c .before .before .before .args .words))) 64 (c .before .before .before .args .i) (sym (c .before .has-room .ensures) ∙ c .if1 .taken)
+
+returns : tie.Need-returns
+returns c = search needs
+
+returns-2 : tie.Need-returns-2
+returns-2 c = λ m f g. ap ruleBack (past-words g (m .rules) noRule (c .before .before .before .args .i) (g .words .known .rules .bound) (sym (c .before .has-room .ensures) ∙ c .if1 .left))
+
+pub rule-at-spec : {M : Type 1} → statement M
+rule-at-spec = tie.close (tie.spec has-room-requires rule-row-requires returns returns-2)

@@ -1,0 +1,262 @@
+-- A record read back from the tables: what the code has for each record of the network. Assumes nothing.
+use Prim.Native.Nat.{ℕ, _+_, _-_}
+use mathlib.Core.Bool.{Bool, true, false, cond, _&&_}
+use mathlib.Core.List.{List}
+use mathlib.Core.Option.{Option, none, some}
+use lib.ListN.{length, getD, take}
+use lib.Dec.{eqb, ltb, leb}
+use lib.Ieee.{Float, nan}
+use Rattle.fields.specs.Fields.{Name}
+use Rattle.fields.specs.declared.Span.{Span}
+use Rattle.fields.specs.declared.Field.{Field}
+use Rattle.fields.specs.declared.Field.the-variants.{Taken, Nothing}
+use Rattle.scope.specs.Records as R
+use Rattle.scope.specs.Records.{Network, zeroF, noName, junction, reservoir, tank, pipe, pump, valve, condition, action}
+use Rattle.scope.specs.Tables.{recordWords, roomNumbers}
+use Rattle.scope.specs.declared.Counts.{Counts}
+use Rattle.scope.specs.declared.Found.{Found}
+use Rattle.scope.specs.declared.Found.the-variants.{At, Nowhere}
+use Rattle.scope.specs.declared.PipeStatus.{PipeStatus}
+use Rattle.scope.specs.declared.PipeStatus.the-variants as pipeIs
+use Rattle.scope.specs.declared.LinkStatus.{LinkStatus}
+use Rattle.scope.specs.declared.LinkStatus.the-variants.{Open, Closed, Active}
+use Rattle.scope.specs.declared.ValveType.{ValveType}
+use Rattle.scope.specs.declared.ValveType.the-variants.{Gpv, Tcv, Fcv, Prv, Psv, Pbv, Pcv}
+use Rattle.scope.specs.declared.Target.{Target}
+use Rattle.scope.specs.declared.Target.the-variants as target
+use Rattle.scope.specs.declared.SystemAttribute.the-variants as system
+use Rattle.scope.specs.declared.NodeAttribute.the-variants as node
+use Rattle.scope.specs.declared.TankAttribute.the-variants as tankHas
+use Rattle.scope.specs.declared.LinkAttribute.the-variants as link
+use Rattle.scope.specs.declared.Comparison.{Comparison}
+use Rattle.scope.specs.declared.Comparison.the-variants.{Equal, Differs, Above, Below, AtLeast, AtMost}
+use Rattle.scope.specs.declared.Operator.{Operator}
+use Rattle.scope.specs.declared.Operator.the-variants.{And, Or}
+use Rattle.scope.specs.declared.Value.{Value}
+use Rattle.scope.specs.declared.Value.the-variants.{Number, Status}
+use Rattle.scope.specs.declared.Tank as tankOut
+use Rattle.scope.specs.declared.Condition as conditionOut
+use Rattle.scope.specs.declared.Action as actionOut
+use Rattle.tables.specs.Holding.{Words, Numbers}
+use Rattle.stored.specs.declared.Amount.{Amount}
+use Rattle.stored.specs.declared.Amount.the-variants.{Set, Unset}
+use Rattle.stored.specs.declared.Junction as junctionOut
+use Rattle.stored.specs.declared.Reservoir as reservoirOut
+use Rattle.stored.specs.declared.NodeKind as kindOut
+use Rattle.stored.specs.declared.NodeKind.the-variants as nodeIs
+use Rattle.stored.specs.declared.Node as nodeOut
+use Rattle.stored.specs.declared.Pipe as pipeOut
+use Rattle.stored.specs.declared.Pump as pumpOut
+use Rattle.stored.specs.declared.Valve as valveOut
+use Rattle.stored.specs.declared.LinkKind as linkKindOut
+use Rattle.stored.specs.declared.LinkKind.the-variants as linkIs
+use Rattle.stored.specs.declared.Link as linkOut
+use Rattle.stored.specs.declared.Curve as curveOut
+use Rattle.stored.specs.declared.Pattern as patternOut
+use Rattle.stored.specs.declared.Point as pointOut
+use Rattle.stored.specs.declared.Multiplier as multiplierOut
+use Rattle.stored.specs.declared.Demand as demandOut
+use Rattle.stored.specs.declared.Rule as ruleOut
+use Rattle.stored.specs.declared.Clause as clauseOut
+use Rattle.stored.specs.declared.Clause.the-variants as clauseIs
+
+-- the two tables, which may be longer, hold the network, whatever the text
+pub record Stands (m : Network) (w : List ℕ) (f : List Float) : Type 0 where
+  pub text : List ℕ
+  pub words : Words text m (take recordWords w)
+  pub numbers : Numbers m (take roomNumbers f)
+
+-- the tables are long enough for a network, and a region has room for a record i
+abbrev pub hasRoom : ℕ → ℕ → ℕ → Bool
+hasRoom words room i = leb recordWords words && ltb i room
+
+abbrev pub haveRoom : ℕ → ℕ → ℕ → ℕ → Bool
+haveRoom words numbers room i = leb roomNumbers numbers && hasRoom words room i
+
+-- what stands past the end of a list
+abbrev pub noPoint : R.Point
+noPoint = record { curve = 0; x = zeroF; y = zeroF }
+
+abbrev pub noMultiplier : R.Multiplier
+noMultiplier = record { pattern = 0; value = zeroF }
+
+abbrev pub noClause : R.Clause
+noClause = action (record { link = 0; name = noName; value = Number zeroF; otherwise = false })
+
+-- ---- names and small values, by their words
+-- a span by its place and its length; one that would end beyond every place is empty
+abbrev pub spanFrom : ℕ → ℕ → Span
+spanFrom at long = cond (ltb (18446744073709551615 - at) long) (record { at = at; end = at }) (record { at = at; end = at + long })
+
+abbrev pub fieldFrom : ℕ → ℕ → Field
+fieldFrom at long = cond (eqb long 0) Nothing (Taken (spanFrom at long))
+
+abbrev pub foundFrom : ℕ → Found
+foundFrom n = cond (eqb n 0) Nowhere (At (n - 1))
+
+abbrev pub amountFrom : ℕ → ℕ → Amount
+amountFrom n x = cond (eqb n 0) Unset (Set x)
+
+abbrev pub pipeStatusFrom : ℕ → PipeStatus
+pipeStatusFrom n = cond (eqb n 2) pipeIs.Closed (cond (eqb n 3) pipeIs.CheckValve pipeIs.Open)
+
+abbrev pub statusFrom : ℕ → LinkStatus
+statusFrom n = cond (eqb n 1) Open (cond (eqb n 2) Closed Active)
+
+abbrev pub typeFrom : ℕ → ValveType
+typeFrom n = cond (eqb n 1) Gpv (cond (eqb n 2) Tcv (cond (eqb n 3) Fcv (cond (eqb n 4) Prv (cond (eqb n 5) Psv (cond (eqb n 6) Pbv Pcv)))))
+
+abbrev pub systemOrNode : ℕ → Target
+systemOrNode n =
+    cond (eqb n 1) (target.System system.Demand)
+    (cond (eqb n 2) (target.System system.Time)
+    (cond (eqb n 3) (target.System system.ClockTime)
+    (cond (eqb n 4) (target.Node node.Demand)
+    (cond (eqb n 5) (target.Node node.Head) (target.Node node.Pressure)))))
+
+abbrev pub tankOrLink : ℕ → Target
+tankOrLink n =
+    cond (eqb n 7) (target.Tank tankHas.Level)
+    (cond (eqb n 8) (target.Tank tankHas.FillTime)
+    (cond (eqb n 9) (target.Tank tankHas.DrainTime)
+    (cond (eqb n 10) (target.Link link.Flow)
+    (cond (eqb n 11) (target.Link link.Status) (target.Link link.Setting)))))
+
+abbrev pub targetFrom : ℕ → Target
+targetFrom n = cond (ltb n 7) (systemOrNode n) (tankOrLink n)
+
+abbrev pub comparisonFrom : ℕ → Comparison
+comparisonFrom n = cond (eqb n 1) Equal (cond (eqb n 2) Differs (cond (eqb n 3) Above (cond (eqb n 4) Below (cond (eqb n 5) AtLeast AtMost))))
+
+abbrev pub operatorFrom : ℕ → Operator
+operatorFrom n = cond (eqb n 1) And Or
+
+abbrev pub valueFrom : ℕ → Float → Value
+valueFrom n x = cond (eqb n 0) (Number x) (Status (statusFrom n))
+
+-- ---- a record by its words a and its numbers b, each by its place in the record
+abbrev pub wordsFrom : List ℕ → ℕ → ℕ → ℕ
+wordsFrom w at j = getD w (at + j) 0
+
+abbrev pub numbersFrom : List Float → ℕ → ℕ → Float
+numbersFrom f at j = getD f (at + j) nan
+
+abbrev pub junctionBy : (ℕ → ℕ) → (ℕ → Float) → junctionOut.Junction
+junctionBy a b = record { elevation = b 0; emitter = b 1; disabled = eqb (a 6) 1 }
+
+abbrev pub reservoirBy : (ℕ → ℕ) → (ℕ → Float) → reservoirOut.Reservoir
+reservoirBy a b = record { elevation = b 0; pattern = fieldFrom (a 4) (a 5); index = foundFrom (a 6) }
+
+abbrev pub tankBy : (ℕ → ℕ) → (ℕ → Float) → tankOut.Tank
+tankBy a b = record { elevation = b 0; initial = b 1; minimum = b 2; maximum = b 3; diameter = b 4; volume = b 5; curve = fieldFrom (a 4) (a 5); overflow = eqb (a 6) 1 }
+
+abbrev pub kindBy : (ℕ → ℕ) → (ℕ → Float) → kindOut.NodeKind
+kindBy a b = cond (eqb (a 3) 2) (nodeIs.Reservoir (reservoirBy a b)) (cond (eqb (a 3) 3) (nodeIs.Tank (tankBy a b)) (nodeIs.Junction (junctionBy a b)))
+
+abbrev pub nodeBy : (ℕ → ℕ) → (ℕ → Float) → nodeOut.Node
+nodeBy a b = record { id = spanFrom (a 0) (a 1); kind = kindBy a b; placed = eqb (a 7) 1; x = b 6; y = b 7 }
+
+abbrev pub pipeBy : (ℕ → ℕ) → (ℕ → Float) → pipeOut.Pipe
+pipeBy a b = record { long = b 0; diameter = b 1; roughness = b 2; minor = b 3; status = pipeStatusFrom (a 6) }
+
+abbrev pub pumpBy : (ℕ → ℕ) → (ℕ → Float) → pumpOut.Pump
+pumpBy a b = record { speed = b 0; power = b 1; head = fieldFrom (a 7) (a 8) }
+
+abbrev pub valveBy : (ℕ → ℕ) → (ℕ → Float) → valveOut.Valve
+valveBy a b = record { setting = b 0; diameter = b 1; minor = b 3; sort = typeFrom (a 6); curve = fieldFrom (a 7) (a 8) }
+
+abbrev pub linkKindBy : (ℕ → ℕ) → (ℕ → Float) → linkKindOut.LinkKind
+linkKindBy a b = cond (eqb (a 5) 2) (linkIs.Pump (pumpBy a b)) (cond (eqb (a 5) 3) (linkIs.Valve (valveBy a b)) (linkIs.Pipe (pipeBy a b)))
+
+abbrev pub linkBy : (ℕ → ℕ) → (ℕ → Float) → linkOut.Link
+linkBy a b = record { id = spanFrom (a 0) (a 1); start = a 3; end = a 4; kind = linkKindBy a b }
+
+abbrev pub curveBy : (ℕ → ℕ) → curveOut.Curve
+curveBy a = record { id = spanFrom (a 0) (a 1) }
+
+abbrev pub patternBy : (ℕ → ℕ) → patternOut.Pattern
+patternBy a = record { id = spanFrom (a 0) (a 1) }
+
+abbrev pub pointBy : ℕ → (ℕ → Float) → pointOut.Point
+pointBy curve b = record { curve = curve; x = b 0; y = b 1 }
+
+abbrev pub multiplierBy : ℕ → Float → multiplierOut.Multiplier
+multiplierBy pattern x = record { pattern = pattern; value = x }
+
+abbrev pub demandBy : (ℕ → ℕ) → Float → demandOut.Demand
+demandBy a x = record { node = a 0; own = eqb (a 1) 1; base = x; pattern = fieldFrom (a 2) (a 3); index = foundFrom (a 4) }
+
+abbrev pub ruleBy : (ℕ → ℕ) → ruleOut.Rule
+ruleBy a = record { id = spanFrom (a 0) (a 1); first = a 3; count = a 4; priority = amountFrom (a 5) (a 6) }
+
+abbrev pub conditionBy : (ℕ → ℕ) → Float → conditionOut.Condition
+conditionBy a x = record { operator = operatorFrom (a 1); target = targetFrom (a 2); name = fieldFrom (a 5) (a 6); comparison = comparisonFrom (a 3); value = valueFrom (a 4) x }
+
+abbrev pub actionBy : (ℕ → ℕ) → Float → actionOut.Action
+actionBy a x = record { link = a 2; name = spanFrom (a 5) (a 6); value = valueFrom (a 4) x; otherwise = eqb (a 1) 1 }
+
+abbrev pub clauseBy : (ℕ → ℕ) → Float → clauseOut.Clause
+clauseBy a x = cond (eqb (a 0) 1) (clauseIs.Condition (conditionBy a x)) (clauseIs.Action (actionBy a x))
+
+abbrev pub countsBy : (ℕ → ℕ) → Counts
+countsBy a = record { nodes = a 0; links = a 1; curves = a 2; points = a 3; patterns = a 4; multipliers = a 5; demands = a 6; rules = a 7; clauses = a 8 }
+
+-- ---- a record of the network, as the code has it
+abbrev pub nameSpan : Name → Span
+nameSpan n = spanFrom (n .at) (length (n .letters))
+
+abbrev pub nameField : Option Name → Field
+nameField none = Nothing
+nameField (some n) = fieldFrom (n .at) (length (n .letters))
+
+abbrev pub placeFound : Option ℕ → Found
+placeFound none = Nowhere
+placeFound (some i) = At i
+
+abbrev pub amountOf : Option ℕ → Amount
+amountOf none = Unset
+amountOf (some n) = Set n
+
+abbrev pub kindBack : R.NodeKind → kindOut.NodeKind
+kindBack (junction j) = nodeIs.Junction (record { elevation = j .elevation; emitter = j .emitter; disabled = j .disabled })
+kindBack (reservoir r) = nodeIs.Reservoir (record { elevation = r .elevation; pattern = nameField (r .pattern); index = placeFound (r .index) })
+kindBack (tank t) =
+    nodeIs.Tank (record { elevation = t .elevation; initial = t .initial; minimum = t .minimum; maximum = t .maximum; diameter = t .diameter; volume = t .volume; curve = nameField (t .curve); overflow = t .overflow })
+
+abbrev pub nodeAt : Name → kindOut.NodeKind → Option R.Place → nodeOut.Node
+nodeAt id k none = record { id = nameSpan id; kind = k; placed = false; x = zeroF; y = zeroF }
+nodeAt id k (some p) = record { id = nameSpan id; kind = k; placed = true; x = p .x; y = p .y }
+
+abbrev pub nodeBack : R.Node → nodeOut.Node
+nodeBack n = nodeAt (n .id) (kindBack (n .kind)) (n .place)
+
+abbrev pub linkKindBack : R.LinkKind → linkKindOut.LinkKind
+linkKindBack (pipe p) = linkIs.Pipe (record { long = p .long; diameter = p .diameter; roughness = p .roughness; minor = p .minor; status = p .status })
+linkKindBack (pump p) = linkIs.Pump (record { speed = p .speed; power = p .power; head = nameField (p .head) })
+linkKindBack (valve v) = linkIs.Valve (record { setting = v .setting; diameter = v .diameter; minor = v .minor; sort = v .type; curve = nameField (v .curve) })
+
+abbrev pub linkBack : R.Link → linkOut.Link
+linkBack l = record { id = nameSpan (l .id); start = l .start; end = l .end; kind = linkKindBack (l .kind) }
+
+abbrev pub curveBack : Name → curveOut.Curve
+curveBack n = record { id = nameSpan n }
+
+abbrev pub patternBack : Name → patternOut.Pattern
+patternBack n = record { id = nameSpan n }
+
+abbrev pub pointBack : R.Point → pointOut.Point
+pointBack p = record { curve = p .curve; x = p .x; y = p .y }
+
+abbrev pub multiplierBack : R.Multiplier → multiplierOut.Multiplier
+multiplierBack p = record { pattern = p .pattern; value = p .value }
+
+abbrev pub demandBack : R.Demand → demandOut.Demand
+demandBack d = record { node = d .node; own = d .own; base = d .base; pattern = nameField (d .pattern); index = placeFound (d .index) }
+
+abbrev pub ruleBack : R.Rule → ruleOut.Rule
+ruleBack r = record { id = nameSpan (r .id); first = r .first; count = r .count; priority = amountOf (r .priority) }
+
+abbrev pub clauseBack : R.Clause → clauseOut.Clause
+clauseBack (condition c) =
+    clauseIs.Condition (record { operator = c .operator; target = c .target; name = nameField (c .name); comparison = c .comparison; value = c .value })
+clauseBack (action a) = clauseIs.Action (record { link = a .link; name = nameSpan (a .name); value = a .value; otherwise = a .otherwise })

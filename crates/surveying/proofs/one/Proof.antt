@@ -1,0 +1,16 @@
+use borrow.Author.Tests.{eq-eqb, ne-eqb}
+use Rattle.surveying.proofs.one.Statement.{statement}
+use Rattle.surveying.proofs.one.Tie as tie
+use Rattle.surveying.proofs.one.Reads as reads
+use Rattle.surveying.proofs.one.Lts as lts
+
+-- src/lib.rt:665:1
+returns : tie.Need-returns
+returns c = rw (eq-eqb (c .before .args .b) (c .before .args .k) (c .if1 .taken))
+
+-- src/lib.rt:665:1
+returns-2 : tie.Need-returns-2
+returns-2 c = rw (ne-eqb (c .before .args .b) (c .before .args .k) (c .if1 .left))
+
+pub one-spec : {M : Type 1} → statement M
+one-spec = tie.close (tie.spec returns returns-2)

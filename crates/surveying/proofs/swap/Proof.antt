@@ -1,0 +1,16 @@
+use borrow.Author.Tests.{eq-eqb, ne-eqb}
+use Rattle.surveying.proofs.swap.Statement.{statement}
+use Rattle.surveying.proofs.swap.Tie as tie
+use Rattle.surveying.proofs.swap.Reads as reads
+use Rattle.surveying.proofs.swap.Lts as lts
+
+-- src/lib.rt:623:1
+returns : tie.Need-returns
+returns c = rw (eq-eqb (c .before .args .b) 8 (c .if1 .taken))
+
+-- src/lib.rt:623:1
+returns-2 : tie.Need-returns-2
+returns-2 c = rw (ne-eqb (c .before .args .b) 8 (c .if1 .left))
+
+pub swap-spec : {M : Type 1} → statement M
+swap-spec = tie.close (tie.spec returns returns-2)
