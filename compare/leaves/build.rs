@@ -1,10 +1,8 @@
-//! Links libleaves.a from the folder that LEAVES_DIR names.
+//! Links libleaves.a from the repository's target/native, where `bindings/library leaves` puts it.
 
 fn main() {
-    println!("cargo:rerun-if-env-changed=LEAVES_DIR");
-    if let Ok(folder) = std::env::var("LEAVES_DIR") {
-        println!("cargo:rerun-if-changed={folder}/libleaves.a");
-        println!("cargo:rustc-link-search=native={folder}");
-        println!("cargo:rustc-link-lib=static=leaves");
-    }
+    let folder = std::env::var("CARGO_MANIFEST_DIR").expect("cargo names it") + "/../../target/native";
+    println!("cargo:rerun-if-changed={folder}/libleaves.a");
+    println!("cargo:rustc-link-search=native={folder}");
+    println!("cargo:rustc-link-lib=static=leaves");
 }

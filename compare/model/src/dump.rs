@@ -36,7 +36,7 @@ pub fn tally(survey: &Survey) -> String {
         n.patterns.len(),
         n.rules.len(),
         n.conditions(),
-        n.actions(),
+        n.clauses.len() - n.conditions(),
         survey.classes.len()
     );
     for class in 1..=8 {
@@ -50,85 +50,96 @@ pub fn tally(survey: &Survey) -> String {
 }
 
 fn network(out: &mut String, n: &Network) -> std::fmt::Result {
-    n.nodes.iter().try_for_each(|node| self::node(out, node))?;
+    n.nodes.iter().enumerate().try_for_each(|(at, node)| self::node(out, n, at, node))?;
     n.links.iter().try_for_each(|link| self::link(out, link))?;
-    for curve in &n.curves {
-        write!(out, "curve {} {}", name(&curve.id), curve.points.len())?;
-        curve.points.iter().try_for_each(|&point| write!(out, " {}", pair(Some(point))))?;
+    for (at, id) in n.curves.iter().enumerate() {
+        let points: Vec<_> = n.points.iter().filter(|point| point.curve == at).collect();
+        write!(out, "curve {} {}", name(id), points.len())?;
+        points.iter().try_for_each(|point| write!(out, " {}", pair(Some((point.x, point.y)))))?;
         writeln!(out)?;
     }
-    for pattern in &n.patterns {
-        write!(out, "pattern {} {}", name(&pattern.id), pattern.multipliers.len())?;
-        pattern.multipliers.iter().try_for_each(|&m| write!(out, " {}", number(m)))?;
+    for (at, id) in n.patterns.iter().enumerate() {
+        let multipliers: Vec<_> = n.multipliers.iter().filter(|multiplier| multiplier.pattern == at).collect();
+        write!(out, "pattern {} {}", name(id), multipliers.len())?;
+        multipliers.iter().try_for_each(|multiplier| write!(out, " {}", number(multiplier.value)))?;
         writeln!(out)?;
     }
     write!(out, "times")?;
     n.times.iter().zip(TIME_DEFAULTS).try_for_each(|(time, default)| write!(out, " {}", time.unwrap_or(default)))?;
     writeln!(out)?;
-    n.rules.iter().try_for_each(|rule| self::rule(out, rule))
+    n.rules.iter().try_for_each(|rule| self::rule(out, rule, &n.clauses[rule.clauses.clone()]))
 }
 
-fn node(out: &mut String, node: &Node) -> std::fmt::Result {
-    let letter = match node.kind {
-        NodeKind::Junction { .. } => 'J',
-        NodeKind::Reservoir { .. } => 'R',
-        NodeKind::Tank { .. } => 'T',
+fn node(out: &mut String, n: &Network, at: usize, node: &Node) -> std::fmt::Result {
+    let (letter, disabled) = match node.kind {
+        NodeKind::Junction { disabled, .. } => ('J', disabled),
+        NodeKind::Reservoir { .. } => ('R', false),
+        NodeKind::Tank { .. } => ('T', false),
     };
-    let (elevation, at) = (number(node.elevation), pair(node.at));
-    write!(out, "node {letter} {} {elevation} {at} {}", name(&node.id), u8::from(node.disabled))?;
+    let elevation = number(node.elevation);
+    write!(out, "node {letter} {} {elevation} {} {}", name(node.id), pair(node.at), u8::from(disabled))?;
     match &node.kind {
-        NodeKind::Junction { emitter, demands, .. } => {
+        NodeKind::Junction { emitter, .. } => {
+            let demands: Vec<_> = n.demands.iter().filter(|demand| demand.junction == at).collect();
             writeln!(out, " {} {}", number(*emitter), demands.len())?;
             for d in demands {
-                writeln!(out, "  demand {} {} {}", number(d.base), optional(&d.pattern), index(d.index))?;
+                writeln!(out, "  demand {} {} {}", number(d.base), optional(d.pattern), index(d.index))?;
             }
             Ok(())
         }
-        NodeKind::Reservoir { pattern, index } => writeln!(out, " {} {}", optional(pattern), self::index(*index)),
+        NodeKind::Reservoir { pattern, index } => writeln!(out, " {} {}", optional(*pattern), self::index(*index)),
         NodeKind::Tank { numbers, curve, overflow } => {
             write!(out, " {elevation}")?;
             numbers.iter().try_for_each(|&x| write!(out, " {}", number(x)))?;
-            writeln!(out, " {} {}", optional(curve), u8::from(*overflow))
+            writeln!(out, " {} {}", optional(*curve), u8::from(*overflow))
         }
     }
 }
 
 fn link(out: &mut String, link: &Link) -> std::fmt::Result {
     let (kind, status) = match link.kind {
-        LinkKind::Pipe { closed: true, .. } => ("PIPE", "CLOSED"),
+        LinkKind::Pipe { status: PipeStatus::Closed, .. } => ("PIPE", "CLOSED"),
         LinkKind::Pipe { .. } => ("PIPE", "OPEN"),
         LinkKind::Pump { .. } => ("PUMP", "OPEN"),
         LinkKind::Valve { .. } => ("VALVE", "ACTIVE"),
     };
-    write!(out, "link {kind} {} {} {} {status} ", name(&link.id), link.start, link.end)?;
+    write!(out, "link {kind} {} {} {} {status} ", name(link.id), link.start, link.end)?;
     match &link.kind {
-        LinkKind::Pipe { length, diameter, roughness, minor_loss, check_valve, .. } => {
+        LinkKind::Pipe { length, diameter, roughness, minor_loss, status } => {
             let numbers = [length, diameter, roughness, minor_loss].map(|x| number(*x)).join(" ");
-            writeln!(out, "{numbers} {}", u8::from(*check_valve))
+            writeln!(out, "{numbers} {}", u8::from(*status == PipeStatus::CheckValve))
         }
         LinkKind::Pump { speed, curve, power } => {
-            writeln!(out, "{} {} {}", number(*speed), optional(curve), number(*power))
+            writeln!(out, "{} {} {}", number(*speed), optional(*curve), number(*power))
         }
         LinkKind::Valve { diameter, kind, setting, minor_loss, curve } => {
             let (setting, minor_loss) = (number(*setting), number(*minor_loss));
-            writeln!(out, "{} {kind} {setting} {minor_loss} {}", number(*diameter), optional(curve))
+            writeln!(out, "{} {kind} {setting} {minor_loss} {}", number(*diameter), optional(*curve))
         }
     }
 }
 
-fn rule(out: &mut String, rule: &Rule) -> std::fmt::Result {
+/// Conditions before actions.
+fn rule(out: &mut String, rule: &Rule, clauses: &[Clause]) -> std::fmt::Result {
+    let (mut conditions, mut actions) = (Vec::new(), Vec::new());
+    for clause in clauses {
+        match clause {
+            Clause::Condition(condition) => conditions.push(condition),
+            Clause::Action(action) => actions.push(action),
+        }
+    }
     let priority = rule.priority.map_or("-".into(), |p| p.to_string());
-    writeln!(out, "rule {} {} {} {priority}", name(&rule.id), rule.conditions.len(), rule.actions.len())?;
-    for c in &rule.conditions {
+    writeln!(out, "rule {} {} {} {priority}", name(rule.id), conditions.len(), actions.len())?;
+    for c in conditions {
         let (_, value) = value(&c.value);
         let operator = if c.or { "OR" } else { "AND" };
-        let (name, attribute, comparison) = (optional(&c.name), c.attribute, c.comparison);
+        let (name, attribute, comparison) = (optional(c.name), c.attribute, c.comparison);
         writeln!(out, "  if {operator} {} {name} {attribute} {comparison} {value}", c.target)?;
     }
-    for a in &rule.actions {
+    for a in actions {
         let (what, value) = value(&a.value);
         let branch = if a.otherwise { "ELSE" } else { "THEN" };
-        writeln!(out, "  do {} {what} {value} {branch}", name(&a.link))?;
+        writeln!(out, "  do {} {what} {value} {branch}", name(a.link))?;
     }
     Ok(())
 }
@@ -152,8 +163,8 @@ fn index(index: Option<usize>) -> String {
     index.map_or("-".into(), |i| i.to_string())
 }
 
-fn optional(id: &Option<Name>) -> String {
-    id.as_ref().map_or("-".into(), |id| name(id))
+fn optional(id: Option<Name>) -> String {
+    id.map_or("-".into(), name)
 }
 
 fn name(id: &[u8]) -> String {

@@ -44,14 +44,6 @@ impl<'a> Fields<'a> {
         self.optional().ok_or(MISSING)
     }
 
-    pub fn name(&mut self) -> Result<Vec<u8>, Refusal> {
-        self.required().map(<[u8]>::to_vec)
-    }
-
-    pub fn optional_name(&mut self) -> Option<Vec<u8>> {
-        self.optional().map(<[u8]>::to_vec)
-    }
-
     pub fn number(&mut self) -> Result<f64, Refusal> {
         number(self.required()?)
     }

@@ -8,6 +8,7 @@ pub mod numbers;
 pub mod reading;
 pub mod rules;
 pub mod sections;
+pub mod tables;
 
 /// "Numbers of the answers".
 pub type Refusal = u8;

@@ -2,7 +2,8 @@
 
 use crate::{NO_ROOM, Refusal, USED};
 
-pub type Name = Vec<u8>;
+/// The part of the text that it is.
+pub type Name<'t> = &'t [u8];
 
 pub const TEXT: usize = 65_536;
 pub const NODES: usize = 256;
@@ -15,87 +16,118 @@ pub const DEMANDS: usize = 512;
 pub const RULES: usize = 64;
 pub const CLAUSES: usize = 512;
 
-pub struct Demand {
+pub struct Demand<'t> {
+    /// The place of its node.
+    pub junction: usize,
+    /// Still the junction line's, not one of DEMANDS.
+    pub own: bool,
     pub base: f64,
-    pub pattern: Option<Name>,
+    pub pattern: Option<Name<'t>>,
     pub index: Option<usize>,
 }
 
-pub enum NodeKind {
-    /// `own`: the demands are still the junction line's, not those of DEMANDS.
+pub enum NodeKind<'t> {
     Junction {
+        disabled: bool,
         emitter: f64,
-        demands: Vec<Demand>,
-        own: bool,
     },
     Reservoir {
-        pattern: Option<Name>,
+        pattern: Option<Name<'t>>,
         index: Option<usize>,
     },
     /// Initial, minimum and maximum level, diameter, minimum volume.
     Tank {
         numbers: [f64; 5],
-        curve: Option<Name>,
+        curve: Option<Name<'t>>,
         overflow: bool,
     },
 }
 
-pub struct Node {
-    pub id: Name,
+pub struct Node<'t> {
+    pub id: Name<'t>,
     pub elevation: f64,
     pub at: Option<(f64, f64)>,
-    pub disabled: bool,
-    pub kind: NodeKind,
+    pub kind: NodeKind<'t>,
 }
 
-pub enum LinkKind {
-    Pipe { length: f64, diameter: f64, roughness: f64, minor_loss: f64, closed: bool, check_valve: bool },
-    Pump { speed: f64, curve: Option<Name>, power: f64 },
-    Valve { diameter: f64, kind: &'static str, setting: f64, minor_loss: f64, curve: Option<Name> },
+#[derive(Clone, Copy, PartialEq)]
+pub enum PipeStatus {
+    Open,
+    Closed,
+    CheckValve,
 }
 
-pub struct Link {
-    pub id: Name,
+pub const VALVES: [&str; 7] = ["GPV", "TCV", "FCV", "PRV", "PSV", "PBV", "PCV"];
+
+pub enum LinkKind<'t> {
+    Pipe { length: f64, diameter: f64, roughness: f64, minor_loss: f64, status: PipeStatus },
+    Pump { speed: f64, curve: Option<Name<'t>>, power: f64 },
+    Valve { diameter: f64, kind: &'static str, setting: f64, minor_loss: f64, curve: Option<Name<'t>> },
+}
+
+pub struct Link<'t> {
+    pub id: Name<'t>,
     pub start: usize,
     pub end: usize,
-    pub kind: LinkKind,
+    pub kind: LinkKind<'t>,
 }
 
-pub struct Curve {
-    pub id: Name,
-    pub points: Vec<(f64, f64)>,
+/// A point of the curve at that place.
+pub struct Point {
+    pub curve: usize,
+    pub x: f64,
+    pub y: f64,
 }
 
-pub struct Pattern {
-    pub id: Name,
-    pub multipliers: Vec<f64>,
+/// A multiplier of the pattern at that place.
+pub struct Multiplier {
+    pub pattern: usize,
+    pub value: f64,
 }
+
+pub const STATUSES: [&str; 3] = ["OPEN", "CLOSED", "ACTIVE"];
 
 pub enum Value {
     Number(f64),
     Status(&'static str),
 }
 
-pub struct Condition {
+pub const SYSTEM: [&str; 3] = ["DEMAND", "TIME", "CLOCKTIME"];
+pub const NODE: [&str; 3] = ["DEMAND", "HEAD", "PRESSURE"];
+pub const TANK: [&str; 3] = ["LEVEL", "FILLTIME", "DRAINTIME"];
+pub const LINK: [&str; 3] = ["FLOW", "STATUS", "SETTING"];
+/// What a condition may look at, and the attributes of each.
+pub const TARGETS: [(&str, [&str; 3]); 4] = [("SYSTEM", SYSTEM), ("NODE", NODE), ("TANK", TANK), ("LINK", LINK)];
+
+pub const COMPARISONS: [&str; 6] = ["=", "<>", ">", "<", ">=", "<="];
+
+pub struct Condition<'t> {
     pub or: bool,
     pub target: &'static str,
-    pub name: Option<Name>,
+    pub name: Option<Name<'t>>,
     pub attribute: &'static str,
     pub comparison: &'static str,
     pub value: Value,
 }
 
-pub struct Action {
-    pub link: Name,
+pub struct Action<'t> {
+    pub link: Name<'t>,
+    /// The place of the link.
+    pub place: usize,
     pub value: Value,
     pub otherwise: bool,
 }
 
-pub struct Rule {
-    pub id: Name,
-    pub conditions: Vec<Condition>,
-    pub actions: Vec<Action>,
+pub enum Clause<'t> {
+    Condition(Condition<'t>),
+    Action(Action<'t>),
+}
+
+pub struct Rule<'t> {
+    pub id: Name<'t>,
     pub priority: Option<u64>,
+    /// The places of its clauses, in the order of its lines.
+    pub clauses: std::ops::Range<usize>,
 }
 
 /// Duration, hydraulic, pattern and report timestep, pattern start, start clocktime.
@@ -103,17 +135,22 @@ pub const TIME_OPTIONS: [&[u8]; 6] =
     [b"DURATION", b"HYDRAULIC TIMESTEP", b"PATTERN TIMESTEP", b"REPORT TIMESTEP", b"PATTERN START", b"START CLOCKTIME"];
 pub const TIME_DEFAULTS: [u64; 6] = [0, 3600, 3600, 3600, 0, 0];
 
+/// All in file order.
 #[derive(Default)]
-pub struct Network {
-    pub nodes: Vec<Node>,
-    pub links: Vec<Link>,
-    pub curves: Vec<Curve>,
-    pub patterns: Vec<Pattern>,
+pub struct Network<'t> {
+    pub nodes: Vec<Node<'t>>,
+    pub links: Vec<Link<'t>>,
+    pub curves: Vec<Name<'t>>,
+    pub points: Vec<Point>,
+    pub patterns: Vec<Name<'t>>,
+    pub multipliers: Vec<Multiplier>,
+    pub demands: Vec<Demand<'t>>,
     pub times: [Option<u64>; 6],
-    pub rules: Vec<Rule>,
+    pub rules: Vec<Rule<'t>>,
+    pub clauses: Vec<Clause<'t>>,
 }
 
-impl Network {
+impl<'t> Network<'t> {
     pub fn node(&self, id: &[u8]) -> Option<usize> {
         self.nodes.iter().position(|node| node.id == id)
     }
@@ -122,35 +159,31 @@ impl Network {
         self.links.iter().position(|link| link.id == id)
     }
 
-    pub fn demands(&self) -> usize {
-        let demands = |node: &Node| match &node.kind {
-            NodeKind::Junction { demands, .. } => demands.len(),
-            _ => 0,
-        };
-        self.nodes.iter().map(demands).sum()
-    }
-
     pub fn conditions(&self) -> usize {
-        self.rules.iter().map(|rule| rule.conditions.len()).sum()
+        self.clauses.iter().filter(|clause| matches!(clause, Clause::Condition(_))).count()
     }
 
-    pub fn actions(&self) -> usize {
-        self.rules.iter().map(|rule| rule.actions.len()).sum()
-    }
-
-    pub fn add_node(&mut self, node: Node) -> Result<(), Refusal> {
-        if self.node(&node.id).is_some() {
+    pub fn add_node(&mut self, node: Node<'t>) -> Result<(), Refusal> {
+        if self.node(node.id).is_some() {
             return Err(USED);
         }
-        let demand = matches!(node.kind, NodeKind::Junction { .. });
         fits(self.nodes.len(), 1, NODES)?;
-        fits(self.demands(), demand.into(), DEMANDS)?;
         self.nodes.push(node);
         Ok(())
     }
 
-    pub fn add_link(&mut self, link: Link) -> Result<(), Refusal> {
-        if self.link(&link.id).is_some() {
+    /// A junction and the demand of its own line, or neither.
+    pub fn add_junction(&mut self, node: Node<'t>, base: f64, pattern: Option<Name<'t>>) -> Result<(), Refusal> {
+        if self.node(node.id).is_none() {
+            fits(self.demands.len(), 1, DEMANDS)?;
+        }
+        self.add_node(node)?;
+        self.demands.push(Demand { junction: self.nodes.len() - 1, own: true, base, pattern, index: None });
+        Ok(())
+    }
+
+    pub fn add_link(&mut self, link: Link<'t>) -> Result<(), Refusal> {
+        if self.link(link.id).is_some() {
             return Err(USED);
         }
         fits(self.links.len(), 1, LINKS)?;
@@ -158,25 +191,26 @@ impl Network {
         Ok(())
     }
 
-    pub fn add_rule(&mut self, rule: Rule) -> Result<(), Refusal> {
-        if self.rules.iter().any(|other| other.id == rule.id) {
+    pub fn add_rule(&mut self, id: Name<'t>, clauses: Vec<Clause<'t>>, priority: Option<u64>) -> Result<(), Refusal> {
+        if self.rules.iter().any(|other| other.id == id) {
             return Err(USED);
         }
         fits(self.rules.len(), 1, RULES)?;
-        fits(self.conditions() + self.actions(), rule.conditions.len() + rule.actions.len(), CLAUSES)?;
-        self.rules.push(rule);
+        fits(self.clauses.len(), clauses.len(), CLAUSES)?;
+        let first = self.clauses.len();
+        self.rules.push(Rule { id, priority, clauses: first..first + clauses.len() });
+        self.clauses.extend(clauses);
         Ok(())
     }
 
     /// Once the text is read to its end.
     pub fn resolve_pattern_indices(&mut self) {
         let patterns = &self.patterns;
-        let place = |name: &Option<Name>| patterns.iter().position(|pattern| Some(&pattern.id) == name.as_ref());
+        let place = |name: Option<Name>| patterns.iter().position(|&pattern| Some(pattern) == name);
+        self.demands.iter_mut().for_each(|demand| demand.index = place(demand.pattern));
         for node in &mut self.nodes {
-            match &mut node.kind {
-                NodeKind::Junction { demands, .. } => demands.iter_mut().for_each(|d| d.index = place(&d.pattern)),
-                NodeKind::Reservoir { pattern, index } => *index = place(pattern),
-                NodeKind::Tank { .. } => {}
+            if let NodeKind::Reservoir { pattern, index } = &mut node.kind {
+                *index = place(*pattern);
             }
         }
     }

@@ -16,16 +16,16 @@ pub const RULE_TAKEN: Class = 6;
 pub const RULE_REFUSED: Class = 7;
 pub const OPEN: Class = 8;
 
-pub struct Strict {
+pub struct Strict<'t> {
     pub answer: Refusal,
     pub line: usize,
-    pub network: Network,
+    pub network: Network<'t>,
 }
 
 /// Nothing is read of a text refused whole: such a survey has no lines.
-pub struct Survey {
+pub struct Survey<'t> {
     pub answer: Refusal,
-    pub network: Network,
+    pub network: Network<'t>,
     pub classes: Vec<Class>,
     pub reasons: Vec<Refusal>,
     /// The lines of each refused piece, in the order in which the pieces ended.
@@ -39,10 +39,10 @@ struct Piece {
     refusal: Refusal,
 }
 
-struct State<'a> {
-    network: Network,
+struct State<'t> {
+    network: Network<'t>,
     section: Section,
-    group: Vec<(usize, &'a [u8])>,
+    group: Vec<(usize, &'t [u8])>,
 }
 
 pub fn lines(text: &[u8]) -> impl Iterator<Item = &[u8]> {
@@ -59,7 +59,7 @@ fn whole_refusal(text: &[u8]) -> Refusal {
     }
 }
 
-pub fn strict(text: &[u8]) -> Strict {
+pub fn strict(text: &[u8]) -> Strict<'_> {
     let mut state = State::new();
     let answer = whole_refusal(text);
     if answer != 0 {
@@ -76,7 +76,7 @@ pub fn strict(text: &[u8]) -> Strict {
     Strict { answer: 0, line: 0, network: state.network }
 }
 
-pub fn survey(text: &[u8]) -> Survey {
+pub fn survey(text: &[u8]) -> Survey<'_> {
     let mut state = State::new();
     let answer = whole_refusal(text);
     let read = if answer == 0 { text } else { b"" };
@@ -102,14 +102,14 @@ pub fn survey(text: &[u8]) -> Survey {
     Survey { answer, network: state.network, classes, reasons, refused }
 }
 
-impl<'a> State<'a> {
+impl<'t> State<'t> {
     fn new() -> Self {
         State { network: Network::default(), section: Section::Passed, group: Vec::new() }
     }
 
     /// The class of a trimmed line as far as it is known, and the piece that it ends. A rule line is open until its
     /// group is closed.
-    fn step(&mut self, number: usize, line: &'a [u8]) -> (Class, Option<Piece>) {
+    fn step(&mut self, number: usize, line: &'t [u8]) -> (Class, Option<Piece>) {
         if line.is_empty() || line.starts_with(b";") {
             (BLANK, self.close())
         } else if line.starts_with(b"[") {
@@ -135,7 +135,7 @@ impl<'a> State<'a> {
             return None;
         }
         let (numbers, lines): (Vec<_>, Vec<_>) = std::mem::take(&mut self.group).into_iter().unzip();
-        let answer = rule(&self.network, &lines).and_then(|rule| self.network.add_rule(rule));
+        let answer = rule(&mut self.network, &lines);
         Some(Piece { lines: numbers, group: true, refusal: answer.err().unwrap_or(0) })
     }
 }

@@ -43,10 +43,10 @@ pub fn section(header: &[u8]) -> Section {
     }
 }
 
-pub fn read_line(network: &mut Network, section: Section, line: &[u8]) -> Result<(), Refusal> {
+pub fn read_line<'t>(network: &mut Network<'t>, section: Section, line: &'t [u8]) -> Result<(), Refusal> {
     let fields = Fields::of(uncommented(line));
     match section {
-        Section::Junctions => network.add_node(junction(fields)?),
+        Section::Junctions => junction(network, fields),
         Section::Reservoirs => network.add_node(reservoir(fields)?),
         Section::Tanks => network.add_node(tank(fields)?),
         Section::Pipes => network.add_link(pipe(network, fields)?),
@@ -62,29 +62,29 @@ pub fn read_line(network: &mut Network, section: Section, line: &[u8]) -> Result
     }
 }
 
-fn junction(mut fields: Fields) -> Result<Node, Refusal> {
-    let id = fields.name()?;
+fn junction<'t>(network: &mut Network<'t>, mut fields: Fields<'t>) -> Result<(), Refusal> {
+    let id = fields.required()?;
     let elevation = number(fields.optional().unwrap_or(b"0"))?;
     let base = fields.number_or(0.0)?;
-    let pattern = fields.optional_name();
+    let pattern = fields.optional();
     let disabled = match fields.optional() {
         None | Some(b"false") => false,
         Some(b"true") => true,
         Some(_) => return Err(MALFORMED),
     };
-    let demands = vec![Demand { base, pattern, index: None }];
-    Ok(Node { id, elevation, at: None, disabled, kind: NodeKind::Junction { emitter: 0.0, demands, own: true } })
+    let node = Node { id, elevation, at: None, kind: NodeKind::Junction { disabled, emitter: 0.0 } };
+    network.add_junction(node, base, pattern)
 }
 
 fn reservoir(mut fields: Fields) -> Result<Node, Refusal> {
-    let id = fields.name()?;
+    let id = fields.required()?;
     let elevation = fields.number()?;
-    let pattern = fields.optional_name();
-    Ok(Node { id, elevation, at: None, disabled: false, kind: NodeKind::Reservoir { pattern, index: None } })
+    let pattern = fields.optional();
+    Ok(Node { id, elevation, at: None, kind: NodeKind::Reservoir { pattern, index: None } })
 }
 
 fn tank(mut fields: Fields) -> Result<Node, Refusal> {
-    let id = fields.name()?;
+    let id = fields.required()?;
     let elevation = fields.number()?;
     let kind = match fields.optional() {
         None => NodeKind::Reservoir { pattern: None, index: None },
@@ -92,37 +92,39 @@ fn tank(mut fields: Fields) -> Result<Node, Refusal> {
             let initial = number(initial)?;
             let (minimum, maximum, diameter) = (fields.number()?, fields.number()?, fields.number()?);
             let volume = fields.optional().map_or(Ok(0.0), number)?;
-            let curve = fields.optional_name().filter(|name| name != b"*");
+            let curve = fields.optional().filter(|name| name != b"*");
             let overflow = fields.optional().is_some_and(|field| field.eq_ignore_ascii_case(b"YES"));
             NodeKind::Tank { numbers: [initial, minimum, maximum, diameter, volume], curve, overflow }
         }
     };
-    Ok(Node { id, elevation, at: None, disabled: false, kind })
+    Ok(Node { id, elevation, at: None, kind })
 }
 
 fn found(network: &Network, node: &[u8]) -> Result<usize, Refusal> {
     network.node(node).ok_or(NOT_FOUND)
 }
 
-fn pipe(network: &Network, mut fields: Fields) -> Result<Link, Refusal> {
-    let (id, start, end) = (fields.name()?, fields.required()?, fields.required()?);
+fn pipe<'t>(network: &Network, mut fields: Fields<'t>) -> Result<Link<'t>, Refusal> {
+    let (id, start, end) = (fields.required()?, fields.required()?, fields.required()?);
     let (length, diameter, roughness) = (fields.number()?, fields.number()?, fields.number()?);
     let minor_loss = fields.number_or(0.0)?;
-    let status = fields.optional().unwrap_or_default().to_ascii_uppercase();
-    let (closed, check_valve) = (status == b"CLOSED", status == b"CV");
+    let status = match fields.optional().unwrap_or_default().to_ascii_uppercase().as_slice() {
+        b"CLOSED" => PipeStatus::Closed,
+        b"CV" => PipeStatus::CheckValve,
+        _ => PipeStatus::Open,
+    };
     let (start, end) = (found(network, start)?, found(network, end)?);
-    let kind = LinkKind::Pipe { length, diameter, roughness, minor_loss, closed, check_valve };
-    Ok(Link { id, start, end, kind })
+    Ok(Link { id, start, end, kind: LinkKind::Pipe { length, diameter, roughness, minor_loss, status } })
 }
 
-fn pump(network: &Network, mut fields: Fields) -> Result<Link, Refusal> {
-    let (id, start, end) = (fields.name()?, fields.required()?, fields.required()?);
+fn pump<'t>(network: &Network, mut fields: Fields<'t>) -> Result<Link<'t>, Refusal> {
+    let (id, start, end) = (fields.required()?, fields.required()?, fields.required()?);
     let (start, end) = (found(network, start)?, found(network, end)?);
     let (mut speed, mut curve, mut power) = (1.0, None, 0.0);
     while let (Some(word), Some(value)) = (fields.optional(), fields.optional()) {
         match word {
             b"SPEED" => speed = swallowed(value, 1.0)?,
-            b"HEAD" => curve = Some(value.to_vec()),
+            b"HEAD" => curve = Some(value),
             b"POWER" => power = swallowed(value, 0.0)?,
             _ => {}
         }
@@ -130,70 +132,68 @@ fn pump(network: &Network, mut fields: Fields) -> Result<Link, Refusal> {
     Ok(Link { id, start, end, kind: LinkKind::Pump { speed, curve, power } })
 }
 
-fn valve(network: &Network, mut fields: Fields) -> Result<Link, Refusal> {
-    let (id, start, end) = (fields.name()?, fields.required()?, fields.required()?);
+fn valve<'t>(network: &Network, mut fields: Fields<'t>) -> Result<Link<'t>, Refusal> {
+    let (id, start, end) = (fields.required()?, fields.required()?, fields.required()?);
     let diameter = fields.number()?;
     let word = fields.required()?.to_ascii_uppercase();
-    let kinds = ["GPV", "TCV", "FCV", "PRV", "PSV", "PBV", "PCV"];
-    let kind = kinds.into_iter().find(|kind| kind.as_bytes() == word).ok_or(UNKNOWN_WORD)?;
-    let (setting, own) = if kind == "GPV" { (0.0, fields.optional_name()) } else { (fields.number_or(0.0)?, None) };
+    let kind = VALVES.into_iter().find(|kind| kind.as_bytes() == word).ok_or(UNKNOWN_WORD)?;
+    let (setting, own) = if kind == "GPV" { (0.0, fields.optional()) } else { (fields.number_or(0.0)?, None) };
     let minor_loss = fields.number_or(0.0)?;
-    let curve = fields.optional_name().or(own);
+    let curve = fields.optional().or(own);
     let (start, end) = (found(network, start)?, found(network, end)?);
     Ok(Link { id, start, end, kind: LinkKind::Valve { diameter, kind, setting, minor_loss, curve } })
 }
 
-fn curve(network: &mut Network, mut fields: Fields) -> Result<(), Refusal> {
-    let (id, x, y) = (fields.name()?, fields.number()?, fields.number()?);
-    let points = network.curves.iter().map(|curve| curve.points.len()).sum();
-    let curves = network.curves.len();
-    let known = network.curves.iter_mut().find(|curve| curve.id == id);
-    if known.as_ref().is_some_and(|curve| curve.points.last().is_some_and(|last| x < last.0)) {
+fn curve<'t>(network: &mut Network<'t>, mut fields: Fields<'t>) -> Result<(), Refusal> {
+    let (id, x, y) = (fields.required()?, fields.number()?, fields.number()?);
+    let known = network.curves.iter().position(|&curve| curve == id);
+    let last = network.points.iter().rfind(|point| Some(point.curve) == known);
+    if last.is_some_and(|last| x < last.x) {
         return Err(X_FALLS);
     }
-    fits(points, 1, POINTS)?;
-    match known {
-        Some(curve) => curve.points.push((x, y)),
-        None => {
-            fits(curves, 1, CURVES)?;
-            network.curves.push(Curve { id, points: vec![(x, y)] });
-        }
-    }
+    fits(network.points.len(), 1, POINTS)?;
+    let curve = place(&mut network.curves, known, id, CURVES)?;
+    network.points.push(Point { curve, x, y });
     Ok(())
 }
 
-fn pattern(network: &mut Network, mut fields: Fields) -> Result<(), Refusal> {
-    let id = fields.name()?;
-    let mut multipliers = Vec::new();
+fn pattern<'t>(network: &mut Network<'t>, mut fields: Fields<'t>) -> Result<(), Refusal> {
+    let id = fields.required()?;
+    let mut values = Vec::new();
     while let Some(field) = fields.optional() {
-        multipliers.push(number(field)?);
+        values.push(number(field)?);
     }
-    let held = network.patterns.iter().map(|pattern| pattern.multipliers.len()).sum();
-    fits(held, multipliers.len(), MULTIPLIERS)?;
-    match network.patterns.iter_mut().find(|pattern| pattern.id == id) {
-        Some(pattern) => pattern.multipliers.extend(multipliers),
-        None => {
-            fits(network.patterns.len(), 1, PATTERNS)?;
-            network.patterns.push(Pattern { id, multipliers });
-        }
-    }
+    fits(network.multipliers.len(), values.len(), MULTIPLIERS)?;
+    let known = network.patterns.iter().position(|&pattern| pattern == id);
+    let pattern = place(&mut network.patterns, known, id, PATTERNS)?;
+    network.multipliers.extend(values.into_iter().map(|value| Multiplier { pattern, value }));
     Ok(())
 }
 
-fn demand(network: &mut Network, mut fields: Fields) -> Result<(), Refusal> {
-    let (id, base, pattern) = (fields.required()?, fields.number()?, fields.optional_name());
-    let place = found(network, id)?;
-    let held = network.demands();
-    let NodeKind::Junction { demands, own, .. } = &mut network.nodes[place].kind else {
+/// The place of a curve or pattern, which a new one gets at the end if there is room.
+fn place<'t>(names: &mut Vec<Name<'t>>, known: Option<usize>, id: Name<'t>, room: usize) -> Result<usize, Refusal> {
+    if let Some(place) = known {
+        return Ok(place);
+    }
+    fits(names.len(), 1, room)?;
+    names.push(id);
+    Ok(names.len() - 1)
+}
+
+fn demand<'t>(network: &mut Network<'t>, mut fields: Fields<'t>) -> Result<(), Refusal> {
+    let (id, base, pattern) = (fields.required()?, fields.number()?, fields.optional());
+    let junction = found(network, id)?;
+    let NodeKind::Junction { .. } = network.nodes[junction].kind else {
         return Err(WRONG_KIND);
     };
-    if *own {
-        demands.clear();
-        *own = false;
-    } else {
-        fits(held, 1, DEMANDS)?;
+    let demand = Demand { junction, own: false, base, pattern, index: None };
+    match network.demands.iter_mut().find(|other| other.own && other.junction == junction) {
+        Some(own) => *own = demand,
+        None => {
+            fits(network.demands.len(), 1, DEMANDS)?;
+            network.demands.push(demand);
+        }
     }
-    demands.push(Demand { base, pattern, index: None });
     Ok(())
 }
 

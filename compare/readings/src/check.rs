@@ -1,20 +1,26 @@
-//! What must hold of a text.
+//! What must hold of a text: the Rust, the model of document 01 and the proved library agree.
 
+use crate::library::Library;
 use model::reading::{Strict, Survey, lines, strict, struck, survey};
 use model::{NO_ACTION, NO_CONDITION, Refusal, dump, ours};
 
 /// Striking refused pieces one by one reads the text once for each.
 const MOST_STRUCK: usize = 60;
+/// Of making a text that shows a difference smaller.
+const MOST_TRIES: usize = 1_000;
 
 /// The answers of strict reading to the text, and to what is left as its refused pieces are struck one by one.
-pub fn check(text: &[u8]) -> Result<Vec<Refusal>, String> {
+pub fn check(text: &[u8], library: &mut Library) -> Result<Vec<Refusal>, String> {
     let survey = survey(text);
+    library.survey(text, &survey)?;
+    library.small(text)?;
     if survey.answer != 0 {
+        library.strict(text, &strict(text))?;
         return Ok(vec![survey.answer]);
     }
     classes_add_up(text, &survey)?;
-    survey_same_as_rust(text, &survey)?;
-    strike_one_by_one(text, &survey)
+    what_is_left(text, &survey, library)?;
+    strike_one_by_one(text, &survey, library)
 }
 
 fn records(dump: &str) -> &str {
@@ -43,24 +49,22 @@ fn classes_add_up(text: &[u8], survey: &Survey) -> Result<(), String> {
     same("classed lines", lines(text).count(), classed)
 }
 
-/// Demand 3, first sentence, and the Rust as its witness: what is left when the refused lines are struck is accepted
-/// and gives the survey's records.
-fn survey_same_as_rust(text: &[u8], survey: &Survey) -> Result<(), String> {
+/// Demand 3, first sentence: what is left when the refused lines are struck is accepted and gives the survey's records,
+/// by the Rust, the model and the library. (The library's survey is the model's by now, its classes with it.)
+fn what_is_left(text: &[u8], survey: &Survey, library: &mut Library) -> Result<(), String> {
     let left = struck(text, survey);
-    let rust = oracle::read(&left);
-    same("answer to what the survey left", rust.answer, 0)?;
     let reading = strict(&left);
     same("model's answer to what the survey left", reading.answer, 0)?;
-    let records = records(&dump::strict(&reading)).to_string();
-    same("records of what the survey left", rust.records, records.clone())?;
-    let all = dump::survey(survey);
-    let surveyed = self::records(&all).split("\nset ").next().unwrap_or("");
-    same("records of the survey", records.trim_end(), surveyed)
+    same_as_rust(&left, &reading)?;
+    library.strict(&left, &reading)?;
+    let (survey, strict) = (dump::survey(survey), dump::strict(&reading));
+    let surveyed = records(&survey).split("\nset ").next().unwrap_or("");
+    same("records of the survey", records(&strict).trim_end(), surveyed)
 }
 
 /// Demand 3, second sentence: strict reading stops at each refused piece, in the order in which they end, once those
-/// before it are struck; and at nothing else. The Rust reads along.
-fn strike_one_by_one(text: &[u8], survey: &Survey) -> Result<Vec<Refusal>, String> {
+/// before it are struck; and at nothing else. The Rust and the library read along.
+fn strike_one_by_one(text: &[u8], survey: &Survey, library: &mut Library) -> Result<Vec<Refusal>, String> {
     let mut left: Vec<(usize, &[u8])> = lines(text).enumerate().map(|(at, line)| (at + 1, line)).collect();
     let mut answers = Vec::new();
     let accepted = (vec![0], 0);
@@ -69,6 +73,7 @@ fn strike_one_by_one(text: &[u8], survey: &Survey) -> Result<Vec<Refusal>, Strin
         let text: Vec<u8> = left.iter().flat_map(|(_, line)| line.to_vec()).collect();
         let reading = strict(&text);
         same_as_rust(&text, &reading)?;
+        library.strict(&text, &reading)?;
         let stopped = if reading.line == 0 { 0 } else { left[reading.line - 1].0 };
         same("line of the next refusal (strict, survey)", stopped, piece[0])?;
         same("number of the next refusal (strict, survey)", reading.answer, reason)?;
@@ -78,30 +83,32 @@ fn strike_one_by_one(text: &[u8], survey: &Survey) -> Result<Vec<Refusal>, Strin
     Ok(answers)
 }
 
-/// Lines, then bytes, taken away while `check` still finds fault.
-pub fn smallest(text: Vec<u8>, faulty: impl Fn(&[u8]) -> bool) -> Vec<u8> {
+/// Lines, then bytes, taken away while fault is still found, but not for ever: a long text may stay long.
+pub fn smallest(text: Vec<u8>, mut faulty: impl FnMut(&[u8]) -> bool) -> Vec<u8> {
+    let mut tries = MOST_TRIES;
     let parts: Vec<Vec<u8>> = lines(&text).map(<[u8]>::to_vec).collect();
-    let fewer = fewest(parts, |parts| faulty(&parts.concat())).concat();
+    let fewer = fewest(parts, &mut tries, &mut faulty).concat();
     let parts = fewer.into_iter().map(|b| vec![b]).collect();
-    fewest(parts, |parts| faulty(&parts.concat())).concat()
+    fewest(parts, &mut tries, &mut faulty).concat()
 }
 
-fn fewest(mut parts: Vec<Vec<u8>>, faulty: impl Fn(&[Vec<u8>]) -> bool) -> Vec<Vec<u8>> {
+fn fewest(mut parts: Vec<Vec<u8>>, tries: &mut usize, faulty: &mut impl FnMut(&[u8]) -> bool) -> Vec<Vec<u8>> {
     let mut step = parts.len().div_ceil(2).max(1);
     loop {
         let mut at = 0;
         let mut found = false;
-        while at < parts.len() {
+        while at < parts.len() && *tries > 0 {
+            *tries -= 1;
             let end = (at + step).min(parts.len());
             let rest = [&parts[..at], &parts[end..]].concat();
-            if faulty(&rest) {
+            if faulty(&rest.concat()) {
                 parts = rest;
                 found = true;
             } else {
                 at = end;
             }
         }
-        if step == 1 && !found {
+        if *tries == 0 || step == 1 && !found {
             return parts;
         }
         step = (step / 2).max(1);

@@ -1,36 +1,40 @@
-//! `readings [COUNT [PROGRAM]]` reads the texts at the edges and COUNT generated ones with the Rust and with the model
-//! of document 01, and holds the answers against each other. PROGRAM, if given, is the proved `records`, which must
+//! `readings [COUNT]` reads the texts at the edges and COUNT generated ones with the Rust, with the model of document 01
+//! and with the proved library, and holds the answers against each other.
+//! `readings COUNT COMMAND ..` holds the proved program `records`, which the command starts, against the model: it must
 //! print the model's dump of each text, strict and survey.
 
-mod check;
-mod edges;
-mod generate;
-mod program;
-mod words;
-
+use model::Refusal;
+use readings::library::Library;
+use readings::{check, edges, generate, program};
 use std::collections::BTreeMap;
 use std::process::exit;
+use std::time::Instant;
 
 const COUNT: u64 = 100_000;
 const MOST_SHOWN: u64 = 20;
+/// Texts between two lines about how far it has come.
+const STEP: u64 = 50_000;
+
+/// By answer: texts, and readings of a text and of what is left of it as its refused pieces are struck.
+type Answers = BTreeMap<Refusal, [u64; 2]>;
 
 fn main() {
     let mut arguments = std::env::args().skip(1);
-    let count = arguments.next().map_or(COUNT, |n| n.parse().expect("usage: readings [COUNT [PROGRAM]]"));
-    let program = arguments.next();
-    let check = |text: &[u8]| match &program {
-        None => check::check(text),
-        Some(program) => program::check(program, text),
-    };
-
-    // by answer: texts, and readings of a text and of what is left of it as its refused pieces are struck
-    let mut answers: BTreeMap<u8, [u64; 2]> = BTreeMap::new();
-    let mut differences = 0;
-    let edges = edges::rooms().map(|(name, text, answer)| {
-        assert_eq!(model::reading::strict(&text).answer, answer, "{name}");
-        text
+    let count = arguments.next().map_or(COUNT, |n| n.parse().expect("usage: readings [COUNT [COMMAND ..]]"));
+    let command: Vec<String> = arguments.collect();
+    let mut library = Library::default();
+    let differences = compare(count, |text| match command[..] {
+        [] => check::check(text, &mut library),
+        _ => program::check(&command, text),
     });
-    for text in edges.chain(edges::odd()).chain((0..count).map(generate::text)) {
+    if differences > 0 {
+        exit(1);
+    }
+}
+
+fn compare(count: u64, mut check: impl FnMut(&[u8]) -> Result<Vec<Refusal>, String>) -> u64 {
+    let (mut answers, mut differences, start) = (Answers::new(), 0, Instant::now());
+    for (at, text) in (1..).zip(texts(count)) {
         match check(&text) {
             Ok(readings) => {
                 answers.entry(readings[0]).or_default()[0] += 1;
@@ -43,12 +47,30 @@ fn main() {
                 println!("difference in\n{}\n{}\n", smallest.escape_ascii(), check(&smallest).unwrap_err());
             }
         }
+        if at % STEP == 0 {
+            println!("{at} texts, {differences} differences, {:.0} s", start.elapsed().as_secs_f64());
+        }
     }
+    report(&answers, differences, start);
+    differences
+}
+
+fn texts(count: u64) -> impl Iterator<Item = Vec<u8>> {
+    let rooms = edges::rooms().map(|(name, text, answer)| {
+        assert_eq!(model::reading::strict(&text).answer, answer, "{name}");
+        text
+    });
+    rooms.chain(edges::odd()).chain((0..count).map(generate::text))
+}
+
+fn report(answers: &Answers, differences: u64, start: Instant) {
     println!("answer texts readings");
     answers.iter().for_each(|(answer, [texts, readings])| println!("{answer:6} {texts} {readings}"));
     let total = |column: usize| answers.values().map(|counts| counts[column]).sum::<u64>();
-    println!("readings: {} texts, {} readings; differences {differences}", total(0), total(1));
-    if differences > 0 {
-        exit(1);
-    }
+    let speed = total(0) as f64 / start.elapsed().as_secs_f64();
+    println!(
+        "readings: {} texts, {} readings; differences {differences}; {speed:.0} texts a second",
+        total(0),
+        total(1)
+    );
 }
