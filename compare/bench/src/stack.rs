@@ -12,7 +12,7 @@ const STACK: usize = PAINTED + (1 << 20);
 const GAP: usize = 512;
 const PAINT: u64 = 0x5ca1_ab1e_0ddb_a115;
 
-pub fn report(texts: &[Text], refused: &[Text]) {
+pub fn report(texts: &[Text], cases: &[Text]) {
     println!("Deepest stack in bytes");
     println!("{:16} {:>8} {:>8} {:>8}", "text", "strict", "survey", "Rust");
     for text in texts {
@@ -20,9 +20,9 @@ pub fn report(texts: &[Text], refused: &[Text]) {
         println!("{:16} {strict:8} {survey:8} {rust:8}", text.name);
     }
     for side in SIDES {
-        let depths = texts.iter().chain(refused).map(|text| (in_a_thread(side, text), text));
+        let depths = texts.iter().chain(cases).map(|text| (in_a_thread(side, text), text));
         let (depth, text) = depths.reduce(|most, next| if next.0 > most.0 { next } else { most }).expect("a text");
-        println!("most, {}, the {} cases with it: {depth} ({})", side.name(), refused.len(), text.name);
+        println!("most of these and {} cases, {}: {depth} ({})", cases.len(), side.name(), text.name);
     }
 }
 
