@@ -21,51 +21,39 @@ abbrev μ-loop : tie.MeasureT-loop
 μ-loop all from₀ at₀ from at =
     length all - at
 
--- src/main.rt:82:5
 loop-holds : tie.Need-loop-holds Inv-loop μ-loop
 loop-holds c = search needs
 
--- src/main.rt:83:13
 line-end-requires : tie.Need-line-end-requires Inv-loop μ-loop
 line-end-requires c κs = search needs
 
--- src/main.rt:84:12
 shared-slice-read-if1 : tie.Need-shared-slice-read-if1 Inv-loop μ-loop
 shared-slice-read-if1 c = search needs
 
--- src/main.rt:85:13
 show-part-requires : tie.Need-show-part-requires Inv-loop μ-loop
 show-part-requires c κs = search needs
 
--- src/main.rt:86:19
 letters-of-requires : tie.Need-letters-of-requires Inv-loop μ-loop
 letters-of-requires c κs = search needs
 
--- src/main.rt:86:13
 write-requires : tie.Need-write-requires Inv-loop μ-loop
 write-requires c κs = search needs
 
--- src/main.rt:82:5
 loop-less : tie.Need-loop-less Inv-loop μ-loop
 loop-less c = omega (arith, c .before .before .before .before .before .before .loop-test .taken, end-more (now (c .before .before .before .before .before .before .before .before .before .args .all)) (c .before .before .before .before .before .before .before .loop .at) _ (c .before .before .before .before .before .before .loop-test .taken) (c .before .before .before .before .before .line-end .ensures))
 
--- src/main.rt:82:5
 loop-again : tie.Need-loop-again Inv-loop μ-loop
 loop-again c = end-le (now (c .before .before .before .before .before .before .before .before .before .args .all)) (c .before .before .before .before .before .before .before .loop .at) _ (c .before .before .before .before .before .before .loop-test .taken) (c .before .before .before .before .before .line-end .ensures)
 
--- src/main.rt:82:5
 loop-less-2 : tie.Need-loop-less-2 Inv-loop μ-loop
 loop-less-2 c = omega (arith, c .before .before .before .loop-test .taken, end-more (now (c .before .before .before .before .before .before .args .all)) (c .before .before .before .before .loop .at) _ (c .before .before .before .loop-test .taken) (c .before .before .line-end .ensures))
 
--- src/main.rt:82:5
 loop-again-2 : tie.Need-loop-again-2 Inv-loop μ-loop
 loop-again-2 c = end-le (now (c .before .before .before .before .before .before .args .all)) (c .before .before .before .before .loop .at) _ (c .before .before .before .loop-test .taken) (c .before .before .line-end .ensures)
 
--- src/main.rt:91:5
 show-part-requires-2 : tie.Need-show-part-requires-2 Inv-loop μ-loop
 show-part-requires-2 c κs = search needs
 
--- src/main.rt:79:1
 returns : tie.Need-returns Inv-loop μ-loop
 returns c = search needs
 

@@ -14,35 +14,27 @@ Inv-loop words all k₀ k = k ≤ all
 abbrev μ-loop : tie.MeasureT-loop
 μ-loop words all k₀ k = all - k
 
--- src/main.rt:51:9
 records-requires : tie.Need-records-requires Inv-loop μ-loop
 records-requires c κs = search needs
 
--- src/main.rt:53:5
 loop-holds : tie.Need-loop-holds Inv-loop μ-loop
 loop-holds c = search needs
 
--- src/main.rt:54:28
 clause-row-requires : tie.Need-clause-row-requires Inv-loop μ-loop
 clause-row-requires c κs = search needs
 
--- src/main.rt:54:9
 show-action-requires : tie.Need-show-action-requires Inv-loop μ-loop
 show-action-requires c κs = search needs
 
--- src/main.rt:55:9
 add-k : tie.Need-add-k Inv-loop μ-loop
 add-k c = search needs
 
--- src/main.rt:53:5
 loop-less : tie.Need-loop-less Inv-loop μ-loop
 loop-less c = search needs
 
--- src/main.rt:53:5
 loop-again : tie.Need-loop-again Inv-loop μ-loop
 loop-again c = search needs
 
--- src/main.rt:50:1
 returns : tie.Need-returns Inv-loop μ-loop
 returns c = search needs
 

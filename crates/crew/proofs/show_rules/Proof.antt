@@ -13,31 +13,24 @@ Inv-loop text words numbers all i₀ i = i ≤ all
 abbrev μ-loop : tie.MeasureT-loop
 μ-loop text words numbers all i₀ i = all - i
 
--- src/main.rt:104:9
 counts-at-requires : tie.Need-counts-at-requires Inv-loop μ-loop
 counts-at-requires c κs = search needs
 
--- src/main.rt:107:5
 loop-holds : tie.Need-loop-holds Inv-loop μ-loop
 loop-holds c = search needs
 
--- src/main.rt:108:9
 show-rule-requires : tie.Need-show-rule-requires Inv-loop μ-loop
 show-rule-requires c κs = search needs
 
--- src/main.rt:109:9
 add-i : tie.Need-add-i Inv-loop μ-loop
 add-i c = search needs
 
--- src/main.rt:107:5
 loop-less : tie.Need-loop-less Inv-loop μ-loop
 loop-less c = search needs
 
--- src/main.rt:107:5
 loop-again : tie.Need-loop-again Inv-loop μ-loop
 loop-again c = search needs
 
--- src/main.rt:103:1
 returns : tie.Need-returns Inv-loop μ-loop
 returns c = search needs
 

@@ -14,47 +14,36 @@ Inv-loop text classes reasons is-open₀ at₀ i₀ is-open at i = i ≤ 65536
 abbrev μ-loop : tie.MeasureT-loop
 μ-loop text classes reasons is-open₀ at₀ i₀ is-open at i = 65536 - i
 
--- src/lib.rt:121:5
 loop-holds : tie.Need-loop-holds Inv-loop μ-loop
 loop-holds c = search needs
 
--- src/lib.rt:122:13
 line-end-requires : tie.Need-line-end-requires Inv-loop μ-loop
 line-end-requires c κs = search needs
 
--- src/lib.rt:123:13
 letters-of-requires : tie.Need-letters-of-requires Inv-loop μ-loop
 letters-of-requires c κs = search needs
 
--- src/lib.rt:124:29
 add-show-line : tie.Need-add-show-line Inv-loop μ-loop
 add-show-line c = search needs
 
--- src/lib.rt:124:36
 element-copy-out-show-line : tie.Need-element-copy-out-show-line Inv-loop μ-loop
 element-copy-out-show-line c = search needs
 
--- src/lib.rt:124:48
 element-copy-out-show-line-2 : tie.Need-element-copy-out-show-line-2 Inv-loop μ-loop
 element-copy-out-show-line-2 c = search needs
 
--- src/lib.rt:124:9
 show-line-requires : tie.Need-show-line-requires Inv-loop μ-loop
 show-line-requires c κs = search needs
 
--- src/lib.rt:121:9
 add-i : tie.Need-add-i Inv-loop μ-loop
 add-i c = search needs
 
--- src/lib.rt:121:5
 loop-less : tie.Need-loop-less Inv-loop μ-loop
 loop-less c = search needs
 
--- src/lib.rt:121:5
 loop-again : tie.Need-loop-again Inv-loop μ-loop
 loop-again c = search needs
 
--- src/lib.rt:118:1
 returns : tie.Need-returns Inv-loop μ-loop
 returns c = search needs
 

@@ -20,62 +20,48 @@ s1 c = c .before .before .before .next-field .ensures .taken _ (c .before .f .gi
 s2 : (c : tie.After-known-told2) → numberFrom (fieldsAt (now (c .before .before .before .before .before .before .before .before .before .args .l)) (c .before .before .before .before .before .f .given .0 .0 .end)) ≡ took (c .before .first .given .0 .0) (fieldsAt (now (c .before .before .before .before .before .before .before .before .before .args .l)) (c .before .first .given .0 .1 .0))
 s2 c = sym (c .before .before .before .take-number .ensures) ∙ ap (tookNumber (now (c .before .before .before .before .before .before .before .before .before .args .l))) (c .before .first .given .1)
 
--- src/lib.rt:228:9
 next-field-requires : tie.Need-next-field-requires
 next-field-requires c κs = search needs
 
--- src/lib.rt:229:22
 enum-known-f : tie.Need-enum-known-f
 enum-known-f c = search needs
 
--- src/lib.rt:230:35
 enum-told : tie.Need-enum-told
 enum-told c = search needs
 
--- src/lib.rt:230:9
 returns : tie.Need-returns
 unfolding placeOf
 returns c = rw (c .before .before .next-field .ensures .nothing (c .enum-told .given .1))
 
--- src/lib.rt:232:9
 take-number-requires : tie.Need-take-number-requires
 take-number-requires c κs = search needs
 
--- src/lib.rt:233:28
 enum-known-first : tie.Need-enum-known-first
 enum-known-first c = search needs
 
--- src/lib.rt:234:35
 enum-told-2 : tie.Need-enum-told-2
 enum-told-2 c = search needs
 
--- src/lib.rt:234:35
 reason-of-requires : tie.Need-reason-of-requires
 reason-of-requires c κs = search needs
 
--- src/lib.rt:234:9
 returns-2 : tie.Need-returns-2
 unfolding placeOf
 returns-2 c = rw (s1 (c .before .before .before .before) .0, sym (c .before .before .before .take-number .ensures) ∙ ap (tookNumber (now (c .before .before .before .before .before .before .before .before .before .args .l))) (c .before .enum-told2 .given .1)) (ap bad (sym (c .reason-of .ensures ∙ ap reasonIn (c .before .enum-told2 .given .1))))
 
--- src/lib.rt:236:9
 take-number-requires-2 : tie.Need-take-number-requires-2
 take-number-requires-2 c κs = search needs
 
--- src/lib.rt:238:28
 enum-known-second : tie.Need-enum-known-second
 enum-known-second c = search needs
 
--- src/lib.rt:239:30
 enum-known-second-2 : tie.Need-enum-known-second-2
 enum-known-second-2 c = search needs
 
--- src/lib.rt:225:1
 returns-3 : tie.Need-returns-3
 unfolding placeOf
 returns-3 c = (rw (s1 (c .before .before .before .before .before .before .before .before) .0, s2 (c .before .before .before .before), sym (c .before .before .before .take-number2 .ensures) ∙ ap (tookNumber (now (c .before .before .before .before .before .before .before .before .before .before .before .before .before .args .l))) (c .before .second .given .1)), s1 (c .before .before .before .before .before .before .before .before) .1)
 
--- src/lib.rt:225:1
 returns-4 : tie.Need-returns-4
 unfolding placeOf
 returns-4 c = rw (s1 (c .before .before .before .before .before .before .before .before) .0, s2 (c .before .before .before .before), sym (c .before .before .before .take-number2 .ensures) ∙ ap (tookNumber (now (c .before .before .before .before .before .before .before .before .before .before .before .before .before .args .l))) (c .before .second2 .given .1))

@@ -15,41 +15,32 @@ use Rattle.takers.proofs.take_number.Reads as take-number-reads
 s1 : (c : tie.After-known-told) → (fieldsAt (now (c .before .before .before .before .before .args .l)) (c .before .before .before .before .before .args .at) ≡ nameIn (now (c .before .before .before .before .before .args .l)) (c .before .f .given .0 .0) ∷ fieldsAt (now (c .before .before .before .before .before .args .l)) (c .before .f .given .0 .0 .end)) × Fits (now (c .before .before .before .before .before .args .l)) (c .before .f .given .0 .0)
 s1 c = c .before .before .before .next-field .ensures .taken _ (c .before .f .given .1)
 
--- src/lib.rt:213:9
 next-field-requires : tie.Need-next-field-requires
 next-field-requires c κs = search needs
 
--- src/lib.rt:214:22
 enum-known-f : tie.Need-enum-known-f
 enum-known-f c = search needs
 
--- src/lib.rt:215:39
 enum-told : tie.Need-enum-told
 enum-told c = search needs
 
--- src/lib.rt:215:9
 returns : tie.Need-returns
 unfolding emitterOf
 returns c = rw (c .before .before .next-field .ensures .nothing (c .enum-told .given .1))
 
--- src/lib.rt:217:9
 take-number-requires : tie.Need-take-number-requires
 take-number-requires c κs = search needs
 
--- src/lib.rt:219:28
 enum-known-first : tie.Need-enum-known-first
 enum-known-first c = search needs
 
--- src/lib.rt:220:30
 enum-known-first-2 : tie.Need-enum-known-first-2
 enum-known-first-2 c = search needs
 
--- src/lib.rt:210:1
 returns-2 : tie.Need-returns-2
 unfolding emitterOf
 returns-2 c = (rw (s1 (c .before .before .before .before) .0, sym (c .before .before .before .take-number .ensures) ∙ ap (tookNumber (now (c .before .before .before .before .before .before .before .before .before .args .l))) (c .before .first .given .1)), s1 (c .before .before .before .before) .1)
 
--- src/lib.rt:210:1
 returns-3 : tie.Need-returns-3
 unfolding emitterOf
 returns-3 c = rw (s1 (c .before .before .before .before) .0, sym (c .before .before .before .take-number .ensures) ∙ ap (tookNumber (now (c .before .before .before .before .before .before .before .before .before .args .l))) (c .before .first2 .given .1))

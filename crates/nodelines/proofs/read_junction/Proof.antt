@@ -31,95 +31,73 @@ s3 : (c : tie.After-known-told3) → swallowedFrom zeroF (fieldsAt (now (c .befo
 unfolding Ieee.ofBits
 s3 c = sym (c .before .before .before .take-swallowed .ensures) ∙ ap (tookNumber (now (c .before .before .before .before .before .before .before .before .before .before .before .before .before .before .args .l))) (c .before .amount .given .1)
 
--- src/lib.rt:74:9
 next-field-requires : tie.Need-next-field-requires
 next-field-requires c κs = search needs
 
--- src/lib.rt:75:22
 enum-known-f : tie.Need-enum-known-f
 enum-known-f c = search needs
 
--- src/lib.rt:76:41
 enum-told : tie.Need-enum-told
 enum-told c = search needs
 
--- src/lib.rt:76:9
 returns : tie.Need-returns
 unfolding junctionOf
 returns c = rw (c .before .before .next-field .ensures .nothing (c .enum-told .given .1))
 
--- src/lib.rt:78:52
 slice-aggregate-take-number-or : tie.Need-slice-aggregate-take-number-or
 slice-aggregate-take-number-or c = search needs
 
--- src/lib.rt:78:9
 take-number-or-requires : tie.Need-take-number-or-requires
 take-number-or-requires c κs = search needs
 
--- src/lib.rt:79:28
 enum-known-height : tie.Need-enum-known-height
 enum-known-height c = search needs
 
--- src/lib.rt:80:41
 enum-told-2 : tie.Need-enum-told-2
 enum-told-2 c = search needs
 
--- src/lib.rt:80:41
 reason-of-requires : tie.Need-reason-of-requires
 reason-of-requires c κs = search needs
 
--- src/lib.rt:80:9
 returns-2 : tie.Need-returns-2
 unfolding junctionOf
 returns-2 c = rw (s1 (c .before .before .before .before .before) .0, sym (c .before .before .before .take-number-or .ensures) ∙ ap (tookNumber (now (c .before .before .before .before .before .before .before .before .before .before .args .l))) (c .before .enum-told2 .given .1)) (ap bad (sym (c .reason-of .ensures ∙ ap reasonIn (c .before .enum-told2 .given .1))))
 
--- src/lib.rt:82:9
 take-swallowed-requires : tie.Need-take-swallowed-requires
 take-swallowed-requires c κs = search needs
 
--- src/lib.rt:83:28
 enum-known-amount : tie.Need-enum-known-amount
 enum-known-amount c = search needs
 
--- src/lib.rt:84:41
 enum-told-3 : tie.Need-enum-told-3
 enum-told-3 c = search needs
 
--- src/lib.rt:84:41
 reason-of-requires-2 : tie.Need-reason-of-requires-2
 reason-of-requires-2 c κs = search needs
 
--- src/lib.rt:84:9
 returns-3 : tie.Need-returns-3
 unfolding junctionOf Ieee.ofBits
 returns-3 c = rw (s1 (c .before .before .before .before .before .before .before .before .before) .0, s2 (c .before .before .before .before), sym (c .before .before .before .take-swallowed .ensures) ∙ ap (tookNumber (now (c .before .before .before .before .before .before .before .before .before .before .before .before .before .before .args .l))) (c .before .enum-told3 .given .1)) (ap bad (sym (c .reason-of2 .ensures ∙ ap reasonIn (c .before .enum-told3 .given .1))))
 
--- src/lib.rt:86:9
 next-field-requires-2 : tie.Need-next-field-requires-2
 next-field-requires-2 c κs = search needs
 
--- src/lib.rt:87:9
 past-field-requires : tie.Need-past-field-requires
 past-field-requires c κs = search needs
 
--- src/lib.rt:88:9
 take-flag-requires : tie.Need-take-flag-requires
 take-flag-requires c κs = search needs
 
--- src/lib.rt:90:24
 enum-known-off : tie.Need-enum-known-off
 enum-known-off c = search needs
 
--- src/lib.rt:97:26
 enum-known-off-2 : tie.Need-enum-known-off-2
 enum-known-off-2 c = search needs
 
--- src/lib.rt:71:1
 returns-4 : tie.Need-returns-4
 unfolding junctionOf Ieee.ofBits
 returns-4 c = (rw (s1 (c .before .before .before .before .before .before .before .before .before .before .before .before .before .before .before) .0, s2 (c .before .before .before .before .before .before .before .before .before .before), s3 (c .before .before .before .before .before .before), optional (c .before .before .before .before .before .next-field2 .result) (c .before .before .before .before .before .next-field2 .ensures), ← c .before .before .before .before .past-field .ensures .left, sym (c .before .before .before .take-flag .ensures) ∙ ap (tookFlag (now (c .before .before .before .before .before .before .before .before .before .before .before .before .before .before .before .before .before .before .before .before .args .l))) (c .before .off .given .1)), s1 (c .before .before .before .before .before .before .before .before .before .before .before .before .before .before .before) .1, may-fit (c .before .before .before .before .before .next-field2 .result) (c .before .before .before .before .before .next-field2 .ensures))
 
--- src/lib.rt:71:1
 returns-5 : tie.Need-returns-5
 unfolding junctionOf Ieee.ofBits
 returns-5 c = rw (s1 (c .before .before .before .before .before .before .before .before .before .before .before .before .before .before .before) .0, s2 (c .before .before .before .before .before .before .before .before .before .before), s3 (c .before .before .before .before .before .before), optional (c .before .before .before .before .before .next-field2 .result) (c .before .before .before .before .before .next-field2 .ensures), ← c .before .before .before .before .past-field .ensures .left, sym (c .before .before .before .take-flag .ensures) ∙ ap (tookFlag (now (c .before .before .before .before .before .before .before .before .before .before .before .before .before .before .before .before .before .before .before .before .args .l))) (c .before .off2 .given .1))

@@ -21,49 +21,38 @@ s1 c = c .before .before .before .next-field .ensures .taken _ (c .before .f .gi
 s2 : (c : tie.After-known-told2) → numberFrom (fieldsAt (now (c .before .before .before .before .before .before .before .before .before .args .l)) (c .before .before .before .before .before .f .given .0 .0 .end)) ≡ took (c .before .height .given .0 .0) (fieldsAt (now (c .before .before .before .before .before .before .before .before .before .args .l)) (c .before .height .given .0 .1 .0))
 s2 c = sym (c .before .before .before .take-number .ensures) ∙ ap (tookNumber (now (c .before .before .before .before .before .before .before .before .before .args .l))) (c .before .height .given .1)
 
--- src/lib.rt:105:9
 next-field-requires : tie.Need-next-field-requires
 next-field-requires c κs = search needs
 
--- src/lib.rt:106:22
 enum-known-f : tie.Need-enum-known-f
 enum-known-f c = search needs
 
--- src/lib.rt:107:33
 enum-told : tie.Need-enum-told
 enum-told c = search needs
 
--- src/lib.rt:107:9
 returns : tie.Need-returns
 unfolding reservoirOf
 returns c = rw (c .before .before .next-field .ensures .nothing (c .enum-told .given .1))
 
--- src/lib.rt:109:9
 take-number-requires : tie.Need-take-number-requires
 take-number-requires c κs = search needs
 
--- src/lib.rt:110:28
 enum-known-height : tie.Need-enum-known-height
 enum-known-height c = search needs
 
--- src/lib.rt:111:33
 enum-told-2 : tie.Need-enum-told-2
 enum-told-2 c = search needs
 
--- src/lib.rt:111:33
 reason-of-requires : tie.Need-reason-of-requires
 reason-of-requires c κs = search needs
 
--- src/lib.rt:111:9
 returns-2 : tie.Need-returns-2
 unfolding reservoirOf
 returns-2 c = rw (s1 (c .before .before .before .before) .0, sym (c .before .before .before .take-number .ensures) ∙ ap (tookNumber (now (c .before .before .before .before .before .before .before .before .before .args .l))) (c .before .enum-told2 .given .1)) (ap bad (sym (c .reason-of .ensures ∙ ap reasonIn (c .before .enum-told2 .given .1))))
 
--- src/lib.rt:113:9
 next-field-requires-2 : tie.Need-next-field-requires-2
 next-field-requires-2 c κs = search needs
 
--- src/lib.rt:102:1
 returns-3 : tie.Need-returns-3
 unfolding reservoirOf
 returns-3 c = (rw (s1 (c .before .before .before .before .before) .0, s2 (c .before), optional (c .next-field2 .result) (c .next-field2 .ensures)), s1 (c .before .before .before .before .before) .1, may-fit (c .next-field2 .result) (c .next-field2 .ensures))

@@ -23,66 +23,51 @@ s1 c = c .before .before .before .next-field .ensures .taken _ (c .before .f .gi
 s2 : (c : tie.After-known-told2) → numberFrom (fieldsAt (now (c .before .before .before .before .before .before .before .before .before .args .l)) (c .before .before .before .before .before .f .given .0 .0 .end)) ≡ took (c .before .height .given .0 .0) (fieldsAt (now (c .before .before .before .before .before .before .before .before .before .args .l)) (c .before .height .given .0 .1 .0))
 s2 c = sym (c .before .before .before .take-number .ensures) ∙ ap (tookNumber (now (c .before .before .before .before .before .before .before .before .before .args .l))) (c .before .height .given .1)
 
--- src/lib.rt:190:9
 next-field-requires : tie.Need-next-field-requires
 next-field-requires c κs = search needs
 
--- src/lib.rt:191:22
 enum-known-f : tie.Need-enum-known-f
 enum-known-f c = search needs
 
--- src/lib.rt:192:33
 enum-told : tie.Need-enum-told
 enum-told c = search needs
 
--- src/lib.rt:192:9
 returns : tie.Need-returns
 unfolding tankOf
 returns c = rw (c .before .before .next-field .ensures .nothing (c .enum-told .given .1))
 
--- src/lib.rt:194:9
 take-number-requires : tie.Need-take-number-requires
 take-number-requires c κs = search needs
 
--- src/lib.rt:195:28
 enum-known-height : tie.Need-enum-known-height
 enum-known-height c = search needs
 
--- src/lib.rt:196:33
 enum-told-2 : tie.Need-enum-told-2
 enum-told-2 c = search needs
 
--- src/lib.rt:196:33
 reason-of-requires : tie.Need-reason-of-requires
 reason-of-requires c κs = search needs
 
--- src/lib.rt:196:9
 returns-2 : tie.Need-returns-2
 unfolding tankOf
 returns-2 c = rw (s1 (c .before .before .before .before) .0, sym (c .before .before .before .take-number .ensures) ∙ ap (tookNumber (now (c .before .before .before .before .before .before .before .before .before .args .l))) (c .before .enum-told2 .given .1)) (ap bad (sym (c .reason-of .ensures ∙ ap reasonIn (c .before .enum-told2 .given .1))))
 
--- src/lib.rt:198:9
 next-field-requires-2 : tie.Need-next-field-requires-2
 next-field-requires-2 c κs = search needs
 
--- src/lib.rt:200:28
 enum-told-3 : tie.Need-enum-told-3
 enum-told-3 c = search needs
 
--- src/lib.rt:200:28
 read-levels-requires : tie.Need-read-levels-requires
 read-levels-requires c κs = search needs
 
--- src/lib.rt:201:47
 enum-told-4 : tie.Need-enum-told-4
 enum-told-4 c = search needs
 
--- src/lib.rt:187:1
 returns-3 : tie.Need-returns-3
 unfolding tankOf
 returns-3 c = rw (s1 (c .before .before .before .before .before .before .before .before) .0, s2 (c .before .before .before .before), or-levels _ _ _ _ _ (c .before .before .before .next-field2 .ensures .taken _ (c .before .enum-told3 .given .1) .0)) (c .read-levels .ensures (s1 (c .before .before .before .before .before .before .before .before) .1))
 
--- src/lib.rt:187:1
 returns-4 : tie.Need-returns-4
 unfolding tankOf
 returns-4 c = (rw (s1 (c .before .before .before .before .before .before .before) .0, s2 (c .before .before .before), c .before .before .next-field2 .ensures .nothing (c .enum-told4 .given .1), c .enum-told4 .given .1), s1 (c .before .before .before .before .before .before .before) .1, may-fit (c .before .before .next-field2 .result) (c .before .before .next-field2 .ensures))

@@ -14,39 +14,30 @@ use Rattle.fields.proofs.next_field.Reads as next-field-reads
 field : (c : tie.After-known-told) → (fieldsAt (now (c .before .before .before .before .before .args .l)) (c .before .before .before .before .before .args .at) ≡ nameIn (now (c .before .before .before .before .before .args .l)) (c .before .f .given .0 .0) ∷ fieldsAt (now (c .before .before .before .before .before .args .l)) (c .before .f .given .0 .0 .end)) × Fits (now (c .before .before .before .before .before .args .l)) (c .before .f .given .0 .0)
 field c = c .before .before .before .next-field .ensures .taken _ (c .before .f .given .1)
 
--- src/lib.rt:125:9
 next-field-requires : tie.Need-next-field-requires
 next-field-requires c κs = search needs
 
--- src/lib.rt:126:22
 enum-known-f : tie.Need-enum-known-f
 enum-known-f c = search needs
 
--- src/lib.rt:127:9
 enum-told : tie.Need-enum-told
 enum-told c = search needs
 
--- src/lib.rt:127:9
 returns : tie.Need-returns
 returns c = (rw (c .before .before .next-field .ensures .nothing (c .enum-told .given .1)), tt)
 
--- src/lib.rt:129:22
 letters-of-requires : tie.Need-letters-of-requires
 letters-of-requires c κs = search needs
 
--- src/lib.rt:129:48
 slice-aggregate-equal : tie.Need-slice-aggregate-equal
 slice-aggregate-equal c = search needs
 
--- src/lib.rt:129:8
 equal-requires : tie.Need-equal-requires
 equal-requires c κs = search needs
 
--- src/lib.rt:130:9
 returns-2 : tie.Need-returns-2
 returns-2 c = (rw (field (c .before .before .before .before) .0, ← c .before .before .before .letters-of .ensures, sym (c .before .equal .ensures) ∙ c .if1 .taken), tt)
 
--- src/lib.rt:122:1
 returns-3 : tie.Need-returns-3
 returns-3 c = (rw (field (c .before .before .before .before) .0, ← c .before .before .before .letters-of .ensures, sym (c .before .equal .ensures) ∙ c .if1 .left), field (c .before .before .before .before) .1)
 

@@ -14,35 +14,27 @@ use Rattle.fields.proofs.spells.Reads as spells-reads
 field : (c : tie.After-known-told) → (fieldsAt (now (c .before .before .before .before .before .args .l)) (c .before .before .before .before .before .args .at) ≡ nameIn (now (c .before .before .before .before .before .args .l)) (c .before .f .given .0 .0) ∷ fieldsAt (now (c .before .before .before .before .before .args .l)) (c .before .f .given .0 .0 .end)) × Fits (now (c .before .before .before .before .before .args .l)) (c .before .f .given .0 .0)
 field c = c .before .before .before .next-field .ensures .taken _ (c .before .f .given .1)
 
--- src/lib.rt:139:9
 next-field-requires : tie.Need-next-field-requires
 next-field-requires c κs = search needs
 
--- src/lib.rt:140:22
 enum-known-f : tie.Need-enum-known-f
 enum-known-f c = search needs
 
--- src/lib.rt:141:9
 enum-told : tie.Need-enum-told
 enum-told c = search needs
 
--- src/lib.rt:141:9
 returns : tie.Need-returns
 returns c = rw (c .before .before .next-field .ensures .nothing (c .enum-told .given .1))
 
--- src/lib.rt:143:20
 letters-of-requires : tie.Need-letters-of-requires
 letters-of-requires c κs = search needs
 
--- src/lib.rt:143:46
 slice-aggregate-spells : tie.Need-slice-aggregate-spells
 slice-aggregate-spells c = search needs
 
--- src/lib.rt:143:5
 spells-requires : tie.Need-spells-requires
 spells-requires c κs = search needs
 
--- src/lib.rt:136:1
 returns-2 : tie.Need-returns-2
 returns-2 c = rw (field (c .before .before .before) .0, ← c .before .before .letters-of .ensures) (c .spells .ensures)
 

@@ -13,39 +13,30 @@ use Rattle.nodes.proofs.coordinates_line.Lts as lts
 use Rattle.nodelines.proofs.read_coordinates.Reads as read-coordinates-reads
 use Rattle.nodes.proofs.store_coordinates.Reads as store-coordinates-reads
 
--- src/lib.rt:619:33
 slice-aggregate-read-coordinates : tie.Need-slice-aggregate-read-coordinates
 slice-aggregate-read-coordinates c = sym (length-take-le (c .before .before .before .before .args .end) (now (c .before .before .before .before .args .text)) (c .before .before .before .before .pre .1))
 
--- src/lib.rt:619:9
 read-coordinates-requires : tie.Need-read-coordinates-requires
 read-coordinates-requires c κs = search needs
 
--- src/lib.rt:621:26
 enum-known-read : tie.Need-enum-known-read
 enum-known-read c = search needs
 
--- src/lib.rt:621:32
 store-coordinates-requires : tie.Need-store-coordinates-requires
 store-coordinates-requires c κs = search needs
 
--- src/lib.rt:622:28
 enum-known-read-2 : tie.Need-enum-known-read-2
 enum-known-read-2 c = search needs
 
--- src/lib.rt:607:1
 same-length : tie.Need-same-length
 same-length c = search needs
 
--- src/lib.rt:607:1
 same-length-2 : tie.Need-same-length-2
 same-length-2 c = search needs
 
--- src/lib.rt:607:1
 returns : tie.Need-returns
 returns c = λ m h. let b = place-told (now (c .before .before .before .before .before .before .before .before .before .before .before .before .before .before .before .args .text)) (c .before .before .before .before .before .before .before .before .before .before .before .before .before .before .before .args .end) (placeOf (fieldsAt (take (c .before .before .before .before .before .before .before .before .before .before .before .before .before .before .before .args .end) (now (c .before .before .before .before .before .before .before .before .before .before .before .before .before .before .before .args .text))) (c .before .before .before .before .before .before .before .before .before .before .before .before .before .before .before .args .at))) (c .before .before .before .before .before .before .before .before .read .given .1) (c .before .before .before .before .before .before .before .before .before .before .read-coordinates .ensures) in rw (place-good (fieldsAt (take (c .before .before .before .before .before .before .before .before .before .before .before .before .before .before .before .args .end) (now (c .before .before .before .before .before .before .before .before .before .before .before .before .before .before .before .args .text))) (c .before .before .before .before .before .before .before .before .before .before .before .before .before .before .before .args .at)) m (b .0)) (c .before .before .before .before .store-coordinates .ensures m h)
 
--- src/lib.rt:607:1
 returns-2 : tie.Need-returns-2
 returns-2 c = λ m h. rw (place-bad (fieldsAt (take (c .before .before .before .before .before .before .before .before .args .end) (now (c .before .before .before .before .before .before .before .before .args .text))) (c .before .before .before .before .before .before .before .before .args .at)) m (place-told (now (c .before .before .before .before .before .before .before .before .args .text)) (c .before .before .before .before .before .before .before .before .args .end) (placeOf (fieldsAt (take (c .before .before .before .before .before .before .before .before .args .end) (now (c .before .before .before .before .before .before .before .before .args .text))) (c .before .before .before .before .before .before .before .before .args .at))) (c .before .read2 .given .1) (c .before .before .before .read-coordinates .ensures))) (refl, refl, refl)
 

@@ -13,39 +13,30 @@ use Rattle.nodes.proofs.emitter_line.Lts as lts
 use Rattle.nodelines.proofs.read_emitter.Reads as read-emitter-reads
 use Rattle.nodes.proofs.store_emitter.Reads as store-emitter-reads
 
--- src/lib.rt:599:29
 slice-aggregate-read-emitter : tie.Need-slice-aggregate-read-emitter
 slice-aggregate-read-emitter c = sym (length-take-le (c .before .before .before .before .args .end) (now (c .before .before .before .before .args .text)) (c .before .before .before .before .pre .1))
 
--- src/lib.rt:599:9
 read-emitter-requires : tie.Need-read-emitter-requires
 read-emitter-requires c κs = search needs
 
--- src/lib.rt:601:30
 enum-known-read : tie.Need-enum-known-read
 enum-known-read c = search needs
 
--- src/lib.rt:601:36
 store-emitter-requires : tie.Need-store-emitter-requires
 store-emitter-requires c κs = search needs
 
--- src/lib.rt:602:32
 enum-known-read-2 : tie.Need-enum-known-read-2
 enum-known-read-2 c = search needs
 
--- src/lib.rt:587:1
 same-length : tie.Need-same-length
 same-length c = search needs
 
--- src/lib.rt:587:1
 same-length-2 : tie.Need-same-length-2
 same-length-2 c = search needs
 
--- src/lib.rt:587:1
 returns : tie.Need-returns
 returns c = λ m h. let b = emitter-told (now (c .before .before .before .before .before .before .before .before .before .before .before .before .before .before .before .args .text)) (c .before .before .before .before .before .before .before .before .before .before .before .before .before .before .before .args .end) (emitterOf (fieldsAt (take (c .before .before .before .before .before .before .before .before .before .before .before .before .before .before .before .args .end) (now (c .before .before .before .before .before .before .before .before .before .before .before .before .before .before .before .args .text))) (c .before .before .before .before .before .before .before .before .before .before .before .before .before .before .before .args .at))) (c .before .before .before .before .before .before .before .before .read .given .1) (c .before .before .before .before .before .before .before .before .before .before .read-emitter .ensures) in rw (emitter-good (fieldsAt (take (c .before .before .before .before .before .before .before .before .before .before .before .before .before .before .before .args .end) (now (c .before .before .before .before .before .before .before .before .before .before .before .before .before .before .before .args .text))) (c .before .before .before .before .before .before .before .before .before .before .before .before .before .before .before .args .at)) m (b .0)) (c .before .before .before .before .store-emitter .ensures m h)
 
--- src/lib.rt:587:1
 returns-2 : tie.Need-returns-2
 returns-2 c = λ m h. rw (emitter-bad (fieldsAt (take (c .before .before .before .before .before .before .before .before .args .end) (now (c .before .before .before .before .before .before .before .before .args .text))) (c .before .before .before .before .before .before .before .before .args .at)) m (emitter-told (now (c .before .before .before .before .before .before .before .before .args .text)) (c .before .before .before .before .before .before .before .before .args .end) (emitterOf (fieldsAt (take (c .before .before .before .before .before .before .before .before .args .end) (now (c .before .before .before .before .before .before .before .before .args .text))) (c .before .before .before .before .before .before .before .before .args .at))) (c .before .read2 .given .1) (c .before .before .before .read-emitter .ensures))) (refl, refl, refl)
 

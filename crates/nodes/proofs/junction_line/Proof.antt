@@ -13,39 +13,30 @@ use Rattle.nodes.proofs.junction_line.Lts as lts
 use Rattle.nodelines.proofs.read_junction.Reads as read-junction-reads
 use Rattle.nodes.proofs.store_junction.Reads as store-junction-reads
 
--- src/lib.rt:545:30
 slice-aggregate-read-junction : tie.Need-slice-aggregate-read-junction
 slice-aggregate-read-junction c = sym (length-take-le (c .before .before .before .before .args .end) (now (c .before .before .before .before .args .text)) (c .before .before .before .before .pre .1))
 
--- src/lib.rt:545:9
 read-junction-requires : tie.Need-read-junction-requires
 read-junction-requires c κs = search needs
 
--- src/lib.rt:547:32
 enum-known-read : tie.Need-enum-known-read
 enum-known-read c = search needs
 
--- src/lib.rt:547:38
 store-junction-requires : tie.Need-store-junction-requires
 store-junction-requires c κs = search needs
 
--- src/lib.rt:548:34
 enum-known-read-2 : tie.Need-enum-known-read-2
 enum-known-read-2 c = search needs
 
--- src/lib.rt:533:1
 same-length : tie.Need-same-length
 same-length c = search needs
 
--- src/lib.rt:533:1
 same-length-2 : tie.Need-same-length-2
 same-length-2 c = search needs
 
--- src/lib.rt:533:1
 returns : tie.Need-returns
 returns c = λ m h. let b = junction-told (now (c .before .before .before .before .before .before .before .before .before .before .before .before .before .before .before .args .text)) (c .before .before .before .before .before .before .before .before .before .before .before .before .before .before .before .args .end) (junctionOf (fieldsAt (take (c .before .before .before .before .before .before .before .before .before .before .before .before .before .before .before .args .end) (now (c .before .before .before .before .before .before .before .before .before .before .before .before .before .before .before .args .text))) (c .before .before .before .before .before .before .before .before .before .before .before .before .before .before .before .args .at))) (c .before .before .before .before .before .before .before .before .read .given .1) (c .before .before .before .before .before .before .before .before .before .before .read-junction .ensures) in rw (junction-good (fieldsAt (take (c .before .before .before .before .before .before .before .before .before .before .before .before .before .before .before .args .end) (now (c .before .before .before .before .before .before .before .before .before .before .before .before .before .before .before .args .text))) (c .before .before .before .before .before .before .before .before .before .before .before .before .before .before .before .args .at)) m (b .0)) (c .before .before .before .before .store-junction .ensures (b .1) (b .2) m h)
 
--- src/lib.rt:533:1
 returns-2 : tie.Need-returns-2
 returns-2 c = λ m h. rw (junction-bad (fieldsAt (take (c .before .before .before .before .before .before .before .before .args .end) (now (c .before .before .before .before .before .before .before .before .args .text))) (c .before .before .before .before .before .before .before .before .args .at)) m (junction-told (now (c .before .before .before .before .before .before .before .before .args .text)) (c .before .before .before .before .before .before .before .before .args .end) (junctionOf (fieldsAt (take (c .before .before .before .before .before .before .before .before .args .end) (now (c .before .before .before .before .before .before .before .before .args .text))) (c .before .before .before .before .before .before .before .before .args .at))) (c .before .read2 .given .1) (c .before .before .before .read-junction .ensures))) (refl, refl, refl)
 

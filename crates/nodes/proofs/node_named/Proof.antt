@@ -10,15 +10,12 @@ use Rattle.nodes.proofs.node_named.Lts as lts
 use Rattle.fields.proofs.letters_of.Reads as letters-of-reads
 use Rattle.tables.proofs.find_node.Reads as find-node-reads
 
--- src/lib.rt:267:43
 letters-of-requires : tie.Need-letters-of-requires
 letters-of-requires c κs = search needs
 
--- src/lib.rt:267:5
 find-node-requires : tie.Need-find-node-requires
 find-node-requires c κs = search needs
 
--- src/lib.rt:263:1
 returns : tie.Need-returns
 returns c = λ m h e. c .find-node .ensures m h e ∙ ap (λ (l : List ℕ). lookup (nodeIds m) l) (c .before .letters-of .ensures)
 

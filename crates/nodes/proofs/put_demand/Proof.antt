@@ -14,39 +14,30 @@ use Rattle.nodes.proofs.put_demand.Lts as lts
 use Rattle.tables.proofs.name_words.Reads as name-words-reads
 use Rattle.tables.proofs.paste_words.Reads as paste-words-reads
 
--- src/lib.rt:299:17
 name-words-requires : tie.Need-name-words-requires
 name-words-requires c κs = search needs
 
--- src/lib.rt:302:27
 mul-paste-words : tie.Need-mul-paste-words
 mul-paste-words c = search needs
 
--- src/lib.rt:302:9
 add-paste-words : tie.Need-add-paste-words
 add-paste-words c = search needs
 
--- src/lib.rt:303:24
 array-read-t17 : tie.Need-array-read-t17
 array-read-t17 c = search needs
 
--- src/lib.rt:303:34
 array-read-t20 : tie.Need-array-read-t20
 array-read-t20 c = search needs
 
--- src/lib.rt:303:9
 slice-aggregate-paste-words : tie.Need-slice-aggregate-paste-words
 slice-aggregate-paste-words c = search needs
 
--- src/lib.rt:300:5
 paste-words-requires : tie.Need-paste-words-requires
 paste-words-requires c κs = search needs
 
--- src/lib.rt:295:1
 same-length : tie.Need-same-length
 same-length c = search needs
 
--- src/lib.rt:295:1
 returns : tie.Need-returns
 returns c = c .before .before .paste-words .ensures ∙ ap (λ (l : List ℕ). splice (now (c .before .before .before .before .before .before .before .before .args .words)) (demandsAt + c .before .before .before .before .before .before .before .before .args .d * demandSize) l) (own-words (c .before .before .before .before .before .name-words .result) (c .before .before .before .before .before .before .before .before .args .n) (optIn (now (c .before .before .before .before .before .before .before .before .args .text)) (c .before .before .before .before .before .before .before .before .args .pattern)) (c .before .before .before .before .before .name-words .ensures))
 

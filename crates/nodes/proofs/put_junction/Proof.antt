@@ -19,55 +19,42 @@ use Rattle.nodes.proofs.put_node.Reads as put-node-reads
 use Rattle.tables.proofs.flag_of.Reads as flag-of-reads
 use Rattle.tables.proofs.paste_numbers.Reads as paste-numbers-reads
 
--- src/lib.rt:322:9
 flag-of-requires : tie.Need-flag-of-requires
 flag-of-requires c κs = search needs
 
--- src/lib.rt:323:5
 put-node-requires : tie.Need-put-node-requires
 put-node-requires c κs = search needs
 
--- src/lib.rt:324:5
 put-demand-requires : tie.Need-put-demand-requires
 put-demand-requires c κs = search needs
 
--- src/lib.rt:327:32
 mul-paste-numbers : tie.Need-mul-paste-numbers
 mul-paste-numbers c = search needs
 
--- src/lib.rt:327:9
 add-paste-numbers : tie.Need-add-paste-numbers
 add-paste-numbers c = search needs
 
--- src/lib.rt:328:9
 slice-aggregate-paste-numbers : tie.Need-slice-aggregate-paste-numbers
 slice-aggregate-paste-numbers c = search needs
 
--- src/lib.rt:325:5
 paste-numbers-requires : tie.Need-paste-numbers-requires
 paste-numbers-requires c κs = search needs
 
--- src/lib.rt:330:36
 add-paste-numbers-2 : tie.Need-add-paste-numbers-2
 add-paste-numbers-2 c = search needs
 
--- src/lib.rt:330:64
 slice-aggregate-paste-numbers-2 : tie.Need-slice-aggregate-paste-numbers-2
 slice-aggregate-paste-numbers-2 c = search needs
 
--- src/lib.rt:330:5
 paste-numbers-requires-2 : tie.Need-paste-numbers-requires-2
 paste-numbers-requires-2 c κs = search needs
 
--- src/lib.rt:308:1
 same-length : tie.Need-same-length
 same-length c = search needs
 
--- src/lib.rt:308:1
 same-length-2 : tie.Need-same-length-2
 same-length-2 c = search needs
 
--- src/lib.rt:308:1
 returns : tie.Need-returns
 unfolding Ieee.ofBits
 returns c = (

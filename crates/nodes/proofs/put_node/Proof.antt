@@ -15,55 +15,42 @@ use Rattle.tables.proofs.id_words.Reads as id-words-reads
 use Rattle.tables.proofs.name_words.Reads as name-words-reads
 use Rattle.tables.proofs.paste_words.Reads as paste-words-reads
 
--- src/lib.rt:283:15
 id-words-requires : tie.Need-id-words-requires
 id-words-requires c κs = search needs
 
--- src/lib.rt:284:17
 name-words-requires : tie.Need-name-words-requires
 name-words-requires c κs = search needs
 
--- src/lib.rt:287:25
 mul-paste-words : tie.Need-mul-paste-words
 mul-paste-words c = search needs
 
--- src/lib.rt:287:9
 add-paste-words : tie.Need-add-paste-words
 add-paste-words c = search needs
 
--- src/lib.rt:289:13
 array-read-t20 : tie.Need-array-read-t20
 array-read-t20 c = search needs
 
--- src/lib.rt:289:21
 array-read-t23 : tie.Need-array-read-t23
 array-read-t23 c = search needs
 
--- src/lib.rt:289:29
 array-read-t26 : tie.Need-array-read-t26
 array-read-t26 c = search needs
 
--- src/lib.rt:289:43
 array-read-t29 : tie.Need-array-read-t29
 array-read-t29 c = search needs
 
--- src/lib.rt:289:53
 array-read-t32 : tie.Need-array-read-t32
 array-read-t32 c = search needs
 
--- src/lib.rt:288:9
 slice-aggregate-paste-words : tie.Need-slice-aggregate-paste-words
 slice-aggregate-paste-words c = search needs
 
--- src/lib.rt:285:5
 paste-words-requires : tie.Need-paste-words-requires
 paste-words-requires c κs = search needs
 
--- src/lib.rt:271:1
 same-length : tie.Need-same-length
 same-length c = search needs
 
--- src/lib.rt:271:1
 returns : tie.Need-returns
 returns c = c .before .before .paste-words .ensures ∙ ap (λ (l : List ℕ). splice (now (c .before .before .before .before .before .before .before .before .before .args .words)) (nodesAt + c .before .before .before .before .before .before .before .before .before .args .i * nodeSize) l) (new-words (c .before .before .before .before .before .before .id-words .result) (c .before .before .before .before .before .name-words .result) (nameIn (now (c .before .before .before .before .before .before .before .before .before .args .text)) (c .before .before .before .before .before .before .before .before .before .args .id)) (c .before .before .before .before .before .before .before .before .before .args .kind) (optIn (now (c .before .before .before .before .before .before .before .before .before .args .text)) (c .before .before .before .before .before .before .before .before .before .args .name)) (c .before .before .before .before .before .before .before .before .before .args .last) (c .before .before .before .before .before .before .id-words .ensures) (c .before .before .before .before .before .name-words .ensures))
 

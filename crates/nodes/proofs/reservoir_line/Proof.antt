@@ -13,27 +13,21 @@ use Rattle.nodes.proofs.reservoir_line.Lts as lts
 use Rattle.nodelines.proofs.read_reservoir.Reads as read-reservoir-reads
 use Rattle.nodes.proofs.store_read.Reads as store-read-reads
 
--- src/lib.rt:565:31
 slice-aggregate-read-reservoir : tie.Need-slice-aggregate-read-reservoir
 slice-aggregate-read-reservoir c = sym (length-take-le (c .before .before .before .before .args .end) (now (c .before .before .before .before .args .text)) (c .before .before .before .before .pre .1))
 
--- src/lib.rt:565:9
 read-reservoir-requires : tie.Need-read-reservoir-requires
 read-reservoir-requires c κs = search needs
 
--- src/lib.rt:566:5
 store-read-requires : tie.Need-store-read-requires
 store-read-requires c κs = search needs
 
--- src/lib.rt:553:1
 same-length : tie.Need-same-length
 same-length c = search needs
 
--- src/lib.rt:553:1
 same-length-2 : tie.Need-same-length-2
 same-length-2 c = search needs
 
--- src/lib.rt:553:1
 returns : tie.Need-returns
 unfolding reservoirStep
 returns c = λ m h. c .before .before .before .before .store-read .ensures (reservoirOf (fieldsAt (take (c .before .before .before .before .before .before .before .before .before .before .before .before .args .end) (now (c .before .before .before .before .before .before .before .before .before .before .before .before .args .text))) (c .before .before .before .before .before .before .before .before .before .before .before .before .args .at))) (node-as-text (now (c .before .before .before .before .before .before .before .before .before .before .before .before .args .text)) (c .before .before .before .before .before .before .before .before .before .before .before .before .args .end) (reservoirOf (fieldsAt (take (c .before .before .before .before .before .before .before .before .before .before .before .before .args .end) (now (c .before .before .before .before .before .before .before .before .before .before .before .before .args .text))) (c .before .before .before .before .before .before .before .before .before .before .before .before .args .at))) (c .before .before .before .before .before .before .before .read-reservoir .result) (c .before .before .before .before .before .before .before .read-reservoir .ensures)) m h

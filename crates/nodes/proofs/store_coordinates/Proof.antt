@@ -12,75 +12,57 @@ use Rattle.nodes.proofs.node_named.Reads as node-named-reads
 use Rattle.tables.proofs.paste_numbers.Reads as paste-numbers-reads
 use Rattle.tables.proofs.paste_words.Reads as paste-words-reads
 
--- src/lib.rt:517:9
 node-named-requires : tie.Need-node-named-requires
 node-named-requires c κs = (c .before .before .before .before .pre .m, c .before .before .before .before .pre .holds .words, count-nodes (c .before .before .before .before .pre .holds))
 
--- src/lib.rt:518:19
 enum-known-found : tie.Need-enum-known-found
 enum-known-found c = search needs
 
--- src/lib.rt:519:30
 enum-told : tie.Need-enum-told
 enum-told c = search needs
 
--- src/lib.rt:519:9
 same-length : tie.Need-same-length
 same-length c = search needs
 
--- src/lib.rt:519:9
 returns : tie.Need-returns
 returns c = λ m h. no-place h (c .before .before .before .before .before .before .before .args .p .id) (record { x = c .before .before .before .before .before .before .before .args .p .x; y = c .before .before .before .before .before .before .before .args .p .y }) (sym (c .before .before .node-named .ensures m (h .words) (count-nodes h)) ∙ c .enum-told .given .1)
 
--- src/lib.rt:521:48
 mul-paste-words : tie.Need-mul-paste-words
 mul-paste-words c = omega (arith, node-room (c .before .before .before .before .before .before .before .before .before .pre .holds) (c .before .before .before .before .before .before .before .before .before .args .p .id) (sym (c .before .before .before .before .node-named .ensures (c .before .before .before .before .before .before .before .before .before .pre .m) (c .before .before .before .before .before .before .before .before .before .pre .holds .words) (count-nodes (c .before .before .before .before .before .before .before .before .before .pre .holds))) ∙ c .before .before .found .given .1))
 
--- src/lib.rt:521:32
 add-paste-words : tie.Need-add-paste-words
 add-paste-words c = omega (arith, node-room (c .before .before .before .before .before .before .before .before .before .pre .holds) (c .before .before .before .before .before .before .before .before .before .args .p .id) (sym (c .before .before .before .before .node-named .ensures (c .before .before .before .before .before .before .before .before .before .pre .m) (c .before .before .before .before .before .before .before .before .before .pre .holds .words) (count-nodes (c .before .before .before .before .before .before .before .before .before .pre .holds))) ∙ c .before .before .found .given .1))
 
--- src/lib.rt:521:32
 add-paste-words-2 : tie.Need-add-paste-words-2
 add-paste-words-2 c = omega (arith, node-room (c .before .before .before .before .before .before .before .before .before .pre .holds) (c .before .before .before .before .before .before .before .before .before .args .p .id) (sym (c .before .before .before .before .node-named .ensures (c .before .before .before .before .before .before .before .before .before .pre .m) (c .before .before .before .before .before .before .before .before .before .pre .holds .words) (count-nodes (c .before .before .before .before .before .before .before .before .before .pre .holds))) ∙ c .before .before .found .given .1))
 
--- src/lib.rt:521:76
 slice-aggregate-paste-words : tie.Need-slice-aggregate-paste-words
 slice-aggregate-paste-words c = search needs
 
--- src/lib.rt:521:5
 paste-words-requires : tie.Need-paste-words-requires
 paste-words-requires c κs = omega (arith, node-room (c .before .before .before .before .before .before .before .before .before .before .pre .holds) (c .before .before .before .before .before .before .before .before .before .before .args .p .id) (sym (c .before .before .before .before .before .node-named .ensures (c .before .before .before .before .before .before .before .before .before .before .pre .m) (c .before .before .before .before .before .before .before .before .before .before .pre .holds .words) (count-nodes (c .before .before .before .before .before .before .before .before .before .before .pre .holds))) ∙ c .before .before .before .found .given .1), sound-words (c .before .before .before .before .before .before .before .before .before .before .pre))
 
--- src/lib.rt:524:32
 mul-paste-numbers : tie.Need-mul-paste-numbers
 mul-paste-numbers c = omega (arith, node-room (c .before .before .before .before .before .before .before .before .before .before .before .before .before .before .pre .holds) (c .before .before .before .before .before .before .before .before .before .before .before .before .before .before .args .p .id) (sym (c .before .before .before .before .before .before .before .before .before .node-named .ensures (c .before .before .before .before .before .before .before .before .before .before .before .before .before .before .pre .m) (c .before .before .before .before .before .before .before .before .before .before .before .before .before .before .pre .holds .words) (count-nodes (c .before .before .before .before .before .before .before .before .before .before .before .before .before .before .pre .holds))) ∙ c .before .before .before .before .before .before .before .found .given .1))
 
--- src/lib.rt:524:9
 add-paste-numbers : tie.Need-add-paste-numbers
 add-paste-numbers c = omega (arith, node-room (c .before .before .before .before .before .before .before .before .before .before .before .before .before .before .pre .holds) (c .before .before .before .before .before .before .before .before .before .before .before .before .before .before .args .p .id) (sym (c .before .before .before .before .before .before .before .before .before .node-named .ensures (c .before .before .before .before .before .before .before .before .before .before .before .before .before .before .pre .m) (c .before .before .before .before .before .before .before .before .before .before .before .before .before .before .pre .holds .words) (count-nodes (c .before .before .before .before .before .before .before .before .before .before .before .before .before .before .pre .holds))) ∙ c .before .before .before .before .before .before .before .found .given .1))
 
--- src/lib.rt:524:9
 add-paste-numbers-2 : tie.Need-add-paste-numbers-2
 add-paste-numbers-2 c = omega (arith, node-room (c .before .before .before .before .before .before .before .before .before .before .before .before .before .before .pre .holds) (c .before .before .before .before .before .before .before .before .before .before .before .before .before .before .args .p .id) (sym (c .before .before .before .before .before .before .before .before .before .node-named .ensures (c .before .before .before .before .before .before .before .before .before .before .before .before .before .before .pre .m) (c .before .before .before .before .before .before .before .before .before .before .before .before .before .before .pre .holds .words) (count-nodes (c .before .before .before .before .before .before .before .before .before .before .before .before .before .before .pre .holds))) ∙ c .before .before .before .before .before .before .before .found .given .1))
 
--- src/lib.rt:525:9
 slice-aggregate-paste-numbers : tie.Need-slice-aggregate-paste-numbers
 slice-aggregate-paste-numbers c = search needs
 
--- src/lib.rt:522:5
 paste-numbers-requires : tie.Need-paste-numbers-requires
 paste-numbers-requires c κs = omega (arith, node-room (c .before .before .before .before .before .before .before .before .before .before .before .before .before .before .before .pre .holds) (c .before .before .before .before .before .before .before .before .before .before .before .before .before .before .before .args .p .id) (sym (c .before .before .before .before .before .before .before .before .before .before .node-named .ensures (c .before .before .before .before .before .before .before .before .before .before .before .before .before .before .before .pre .m) (c .before .before .before .before .before .before .before .before .before .before .before .before .before .before .before .pre .holds .words) (count-nodes (c .before .before .before .before .before .before .before .before .before .before .before .before .before .before .before .pre .holds))) ∙ c .before .before .before .before .before .before .before .before .found .given .1), sound-numbers (c .before .before .before .before .before .before .before .before .before .before .before .before .before .before .before .pre))
 
--- src/lib.rt:506:1
 same-length-2 : tie.Need-same-length-2
 same-length-2 c = search needs
 
--- src/lib.rt:506:1
 same-length-3 : tie.Need-same-length-3
 same-length-3 c = search needs
 
--- src/lib.rt:506:1
 returns-2 : tie.Need-returns-2
 returns-2 c = λ m h. place-set h (c .before .before .before .before .before .before .before .before .before .before .before .before .before .before .before .before .before .before .args .p .id) (sym (c .before .before .before .before .before .before .before .before .before .before .before .before .before .node-named .ensures m (h .words) (count-nodes h)) ∙ c .before .before .before .before .before .before .before .before .before .before .before .found .given .1) (record { x = c .before .before .before .before .before .before .before .before .before .before .before .before .before .before .before .before .before .before .args .p .x; y = c .before .before .before .before .before .before .before .before .before .before .before .before .before .before .before .before .before .before .args .p .y }) (c .before .before .before .before .before .before .before .paste-words .ensures) (c .before .before .paste-numbers .ensures)
 

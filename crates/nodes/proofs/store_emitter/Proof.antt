@@ -13,67 +13,51 @@ use Rattle.nodes.proofs.node_named.Reads as node-named-reads
 use Rattle.tables.proofs.is_junction.Reads as is-junction-reads
 use Rattle.tables.proofs.paste_numbers.Reads as paste-numbers-reads
 
--- src/lib.rt:490:9
 node-named-requires : tie.Need-node-named-requires
 node-named-requires c κs = (c .before .before .before .before .pre .m, c .before .before .before .before .pre .holds .words, count-nodes (c .before .before .before .before .pre .holds))
 
--- src/lib.rt:491:19
 enum-known-found : tie.Need-enum-known-found
 enum-known-found c = search needs
 
--- src/lib.rt:492:30
 enum-told : tie.Need-enum-told
 enum-told c = search needs
 
--- src/lib.rt:492:9
 same-length : tie.Need-same-length
 same-length c = search needs
 
--- src/lib.rt:492:9
 returns : tie.Need-returns
 returns c = λ m h. no-emitter h (c .before .before .before .before .before .before .before .args .e .id) (c .before .before .before .before .before .before .before .args .e .coefficient) (sym (c .before .before .node-named .ensures m (h .words) (count-nodes h)) ∙ c .enum-told .given .1)
 
--- src/lib.rt:494:8
 is-junction-requires : tie.Need-is-junction-requires
 is-junction-requires c κs = (node-room (c .before .before .before .before .before .before .before .before .before .pre .holds) (c .before .before .before .before .before .before .before .before .before .args .e .id) (sym (c .before .before .before .before .node-named .ensures (c .before .before .before .before .before .before .before .before .before .pre .m) (c .before .before .before .before .before .before .before .before .before .pre .holds .words) (count-nodes (c .before .before .before .before .before .before .before .before .before .pre .holds))) ∙ c .before .before .found .given .1), sound-words (c .before .before .before .before .before .before .before .before .before .pre))
 
--- src/lib.rt:497:36
 mul-paste-numbers : tie.Need-mul-paste-numbers
 mul-paste-numbers c = omega (arith, node-room (c .before .before .before .before .before .before .before .before .before .before .before .before .pre .holds) (c .before .before .before .before .before .before .before .before .before .before .before .before .args .e .id) (sym (c .before .before .before .before .before .before .before .node-named .ensures (c .before .before .before .before .before .before .before .before .before .before .before .before .pre .m) (c .before .before .before .before .before .before .before .before .before .before .before .before .pre .holds .words) (count-nodes (c .before .before .before .before .before .before .before .before .before .before .before .before .pre .holds))) ∙ c .before .before .before .before .before .found .given .1))
 
--- src/lib.rt:497:13
 add-paste-numbers : tie.Need-add-paste-numbers
 add-paste-numbers c = omega (arith, node-room (c .before .before .before .before .before .before .before .before .before .before .before .before .pre .holds) (c .before .before .before .before .before .before .before .before .before .before .before .before .args .e .id) (sym (c .before .before .before .before .before .before .before .node-named .ensures (c .before .before .before .before .before .before .before .before .before .before .before .before .pre .m) (c .before .before .before .before .before .before .before .before .before .before .before .before .pre .holds .words) (count-nodes (c .before .before .before .before .before .before .before .before .before .before .before .before .pre .holds))) ∙ c .before .before .before .before .before .found .given .1))
 
--- src/lib.rt:497:13
 add-paste-numbers-2 : tie.Need-add-paste-numbers-2
 add-paste-numbers-2 c = omega (arith, node-room (c .before .before .before .before .before .before .before .before .before .before .before .before .pre .holds) (c .before .before .before .before .before .before .before .before .before .before .before .before .args .e .id) (sym (c .before .before .before .before .before .before .before .node-named .ensures (c .before .before .before .before .before .before .before .before .before .before .before .before .pre .m) (c .before .before .before .before .before .before .before .before .before .before .before .before .pre .holds .words) (count-nodes (c .before .before .before .before .before .before .before .before .before .before .before .before .pre .holds))) ∙ c .before .before .before .before .before .found .given .1))
 
--- src/lib.rt:498:13
 slice-aggregate-paste-numbers : tie.Need-slice-aggregate-paste-numbers
 slice-aggregate-paste-numbers c = search needs
 
--- src/lib.rt:495:9
 paste-numbers-requires : tie.Need-paste-numbers-requires
 paste-numbers-requires c κs = omega (arith, node-room (c .before .before .before .before .before .before .before .before .before .before .before .before .before .pre .holds) (c .before .before .before .before .before .before .before .before .before .before .before .before .before .args .e .id) (sym (c .before .before .before .before .before .before .before .before .node-named .ensures (c .before .before .before .before .before .before .before .before .before .before .before .before .before .pre .m) (c .before .before .before .before .before .before .before .before .before .before .before .before .before .pre .holds .words) (count-nodes (c .before .before .before .before .before .before .before .before .before .before .before .before .before .pre .holds))) ∙ c .before .before .before .before .before .before .found .given .1), sound-numbers (c .before .before .before .before .before .before .before .before .before .before .before .before .before .pre))
 
--- src/lib.rt:500:9
 same-length-2 : tie.Need-same-length-2
 same-length-2 c = search needs
 
--- src/lib.rt:500:9
 same-length-3 : tie.Need-same-length-3
 same-length-3 c = search needs
 
--- src/lib.rt:500:9
 returns-2 : tie.Need-returns-2
 returns-2 c = λ m h. emitter-set h (c .before .before .before .before .before .before .before .before .before .before .before .before .before .before .before .before .args .e .id) (sym (c .before .before .before .before .before .before .before .before .before .before .before .node-named .ensures m (h .words) (count-nodes h)) ∙ c .before .before .before .before .before .before .before .before .before .found .given .1) (c .before .before .before .before .before .before .before .before .before .before .before .before .before .before .before .before .args .e .coefficient) (sym (c .before .before .before .before .before .before .is-junction .ensures (now (c .before .before .before .before .before .before .before .before .before .before .before .before .before .before .before .before .args .text)) m (h .words) (node-below h (c .before .before .before .before .before .before .before .before .before .before .before .before .before .before .before .before .args .e .id) (sym (c .before .before .before .before .before .before .before .before .before .before .before .node-named .ensures m (h .words) (count-nodes h)) ∙ c .before .before .before .before .before .before .before .before .before .found .given .1))) ∙ c .before .before .before .before .before .if1 .taken) (c .before .before .paste-numbers .ensures)
 
--- src/lib.rt:479:1
 same-length-4 : tie.Need-same-length-4
 same-length-4 c = search needs
 
--- src/lib.rt:479:1
 returns-3 : tie.Need-returns-3
 returns-3 c = λ m h. no-junction h (c .before .before .before .before .before .before .before .before .before .before .before .args .e .id) (sym (c .before .before .before .before .before .before .node-named .ensures m (h .words) (count-nodes h)) ∙ c .before .before .before .before .found .given .1) (c .before .before .before .before .before .before .before .before .before .before .before .args .e .coefficient) (sym (c .before .is-junction .ensures (now (c .before .before .before .before .before .before .before .before .before .before .before .args .text)) m (h .words) (node-below h (c .before .before .before .before .before .before .before .before .before .before .before .args .e .id) (sym (c .before .before .before .before .before .before .node-named .ensures m (h .words) (count-nodes h)) ∙ c .before .before .before .before .found .given .1))) ∙ c .if1 .left)
 

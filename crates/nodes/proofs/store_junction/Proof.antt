@@ -10,62 +10,48 @@ use Rattle.nodes.proofs.store_junction.Lts as lts
 use Rattle.nodes.proofs.node_named.Reads as node-named-reads
 use Rattle.nodes.proofs.put_junction.Reads as put-junction-reads
 
--- src/lib.rt:346:9
 node-named-requires : tie.Need-node-named-requires
 node-named-requires c κs = (c .before .before .before .before .pre .m, c .before .before .before .before .pre .holds .words, count-nodes (c .before .before .before .before .pre .holds))
 
--- src/lib.rt:348:30
 enum-told : tie.Need-enum-told
 enum-told c = search needs
 
--- src/lib.rt:348:9
 same-length : tie.Need-same-length
 same-length c = search needs
 
--- src/lib.rt:348:9
 returns : tie.Need-returns
 returns c = λ fit may m h. junction-used h (c .before .before .before .before .before .before .before .args .j) (sym (c .before .before .node-named .ensures m (h .words) (count-nodes h)) ∙ c .enum-told .given .1)
 
 enum-told-2 : tie.Need-enum-told-2
 enum-told-2 c = search needs
 
--- src/lib.rt:352:13
 put-junction-requires : tie.Need-put-junction-requires
 put-junction-requires c κs = (c .before .before .before .if1 .taken, c .before .before .if2 .taken, sound-words (c .before .before .before .before .before .before .before .before .before .before .before .pre), sound-numbers (c .before .before .before .before .before .before .before .before .before .before .before .pre))
 
--- src/lib.rt:354:23
 add-t : tie.Need-add-t
 add-t c = search needs
 
--- src/lib.rt:355:25
 add-t-2 : tie.Need-add-t-2
 add-t-2 c = search needs
 
--- src/lib.rt:356:13
 same-length-2 : tie.Need-same-length-2
 same-length-2 c = search needs
 
--- src/lib.rt:356:13
 same-length-3 : tie.Need-same-length-3
 same-length-3 c = search needs
 
--- src/lib.rt:356:13
 returns-2 : tie.Need-returns-2
 returns-2 c = λ fit may m h. junction-stored h (c .before .before .before .before .before .before .before .before .before .before .before .before .before .before .before .before .args .j) (sym (c .before .before .before .before .before .before .before .before .before .before .before .node-named .ensures m (h .words) (count-nodes h)) ∙ c .before .before .before .before .before .before .before .before .before .enum-told2 .given .1) fit may (c .before .before .before .before .before .before .before .before .if1 .taken) (c .before .before .before .before .before .before .before .if2 .taken) (c .before .before .before .before .put-junction .ensures .0) (c .before .before .before .before .put-junction .ensures .1)
 
--- src/lib.rt:333:1
 same-length-4 : tie.Need-same-length-4
 same-length-4 c = search needs
 
--- src/lib.rt:333:1
 returns-3 : tie.Need-returns-3
 returns-3 c = λ fit may m h. demands-full h (c .before .before .before .before .before .before .before .before .before .args .j) (sym (c .before .before .before .before .node-named .ensures m (h .words) (count-nodes h)) ∙ c .before .before .enum-told2 .given .1) (c .before .if1 .taken) (c .if2 .left)
 
--- src/lib.rt:333:1
 same-length-5 : tie.Need-same-length-5
 same-length-5 c = search needs
 
--- src/lib.rt:333:1
 returns-4 : tie.Need-returns-4
 returns-4 c = λ fit may m h. nodes-full h (c .before .before .before .before .before .before .before .before .args .j) (sym (c .before .before .before .node-named .ensures m (h .words) (count-nodes h)) ∙ c .before .enum-told2 .given .1) (c .if1 .left)
 

@@ -9,51 +9,39 @@ use Rattle.nodes.proofs.store_read.Lts as lts
 use Rattle.nodes.proofs.store_reservoir.Reads as store-reservoir-reads
 use Rattle.nodes.proofs.store_tank.Reads as store-tank-reads
 
--- src/lib.rt:472:29
 enum-known-read : tie.Need-enum-known-read
 enum-known-read c = search needs
 
--- src/lib.rt:472:35
 store-reservoir-requires : tie.Need-store-reservoir-requires
 store-reservoir-requires c κs = search needs
 
--- src/lib.rt:473:25
 enum-known-read-2 : tie.Need-enum-known-read-2
 enum-known-read-2 c = search needs
 
--- src/lib.rt:473:31
 store-tank-requires : tie.Need-store-tank-requires
 store-tank-requires c κs = search needs
 
--- src/lib.rt:474:26
 enum-known-read-3 : tie.Need-enum-known-read-3
 enum-known-read-3 c = search needs
 
--- src/lib.rt:460:1
 same-length : tie.Need-same-length
 same-length c = search needs
 
--- src/lib.rt:460:1
 same-length-2 : tie.Need-same-length-2
 same-length-2 c = search needs
 
--- src/lib.rt:460:1
 returns : tie.Need-returns
 returns c = λ o a m h. let b = node-told (now (c .before .before .before .before .before .before .before .before .before .before .before .before .before .args .text)) o (c .before .before .before .before .before .before .before .before .read .given .1) a in rw (node-good m o (b .0)) (c .before .before .before .before .store-reservoir .ensures (b .1) (b .2) m h)
 
--- src/lib.rt:460:1
 same-length-3 : tie.Need-same-length-3
 same-length-3 c = search needs
 
--- src/lib.rt:460:1
 same-length-4 : tie.Need-same-length-4
 same-length-4 c = search needs
 
--- src/lib.rt:460:1
 returns-2 : tie.Need-returns-2
 returns-2 c = λ o a m h. let b = node-told (now (c .before .before .before .before .before .before .before .before .before .before .before .before .before .args .text)) o (c .before .before .before .before .before .before .before .before .read2 .given .1) a in rw (node-good m o (b .0)) (c .before .before .before .before .store-tank .ensures (b .1) m h)
 
--- src/lib.rt:460:1
 returns-3 : tie.Need-returns-3
 returns-3 c = λ o a m h. rw (node-bad m o (node-told (now (c .before .before .before .before .before .before .args .text)) o (c .before .read3 .given .1) a)) (refl, refl, refl)
 

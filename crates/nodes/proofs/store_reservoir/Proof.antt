@@ -8,23 +8,18 @@ use Rattle.nodes.proofs.store_reservoir.Reads as reads
 use Rattle.nodes.proofs.store_reservoir.Lts as lts
 use Rattle.nodes.proofs.store_node.Reads as store-node-reads
 
--- src/lib.rt:416:9
 slice-aggregate-store-node : tie.Need-slice-aggregate-store-node
 slice-aggregate-store-node c = search needs
 
--- src/lib.rt:410:5
 store-node-requires : tie.Need-store-node-requires
 store-node-requires c κs = search needs
 
--- src/lib.rt:397:1
 same-length : tie.Need-same-length
 same-length c = search needs
 
--- src/lib.rt:397:1
 same-length-2 : tie.Need-same-length-2
 same-length-2 c = search needs
 
--- src/lib.rt:397:1
 returns : tie.Need-returns
 unfolding Ieee.ofBits
 returns c = λ fit may m h. c .before .before .before .before .store-node .ensures fit _ (reservoir-kind (now (c .before .before .before .before .before .before .before .before .before .before .before .before .args .text)) (c .before .before .before .before .before .before .before .before .before .before .before .before .args .r) may) m h

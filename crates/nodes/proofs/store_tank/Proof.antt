@@ -9,27 +9,21 @@ use Rattle.nodes.proofs.store_tank.Lts as lts
 use Rattle.nodes.proofs.store_node.Reads as store-node-reads
 use Rattle.tables.proofs.flag_of.Reads as flag-of-reads
 
--- src/lib.rt:436:9
 flag-of-requires : tie.Need-flag-of-requires
 flag-of-requires c κs = search needs
 
--- src/lib.rt:443:9
 slice-aggregate-store-node : tie.Need-slice-aggregate-store-node
 slice-aggregate-store-node c = search needs
 
--- src/lib.rt:437:5
 store-node-requires : tie.Need-store-node-requires
 store-node-requires c κs = search needs
 
--- src/lib.rt:423:1
 same-length : tie.Need-same-length
 same-length c = search needs
 
--- src/lib.rt:423:1
 same-length-2 : tie.Need-same-length-2
 same-length-2 c = search needs
 
--- src/lib.rt:423:1
 returns : tie.Need-returns
 unfolding Ieee.ofBits
 returns c = λ fit m h. c .before .before .before .before .store-node .ensures fit _ (tank-kind (now (c .before .before .before .before .before .before .before .before .before .before .before .before .args .text)) (c .before .before .before .before .before .before .before .before .before .before .before .before .args .tank) (c .before .before .before .before .before .before .before .before .flag-of .result) (c .before .before .before .before .before .before .before .before .flag-of .ensures)) m h

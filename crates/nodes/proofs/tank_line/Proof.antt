@@ -13,27 +13,21 @@ use Rattle.nodes.proofs.tank_line.Lts as lts
 use Rattle.nodelines.proofs.read_tank.Reads as read-tank-reads
 use Rattle.nodes.proofs.store_read.Reads as store-read-reads
 
--- src/lib.rt:582:26
 slice-aggregate-read-tank : tie.Need-slice-aggregate-read-tank
 slice-aggregate-read-tank c = sym (length-take-le (c .before .before .before .before .args .end) (now (c .before .before .before .before .args .text)) (c .before .before .before .before .pre .1))
 
--- src/lib.rt:582:9
 read-tank-requires : tie.Need-read-tank-requires
 read-tank-requires c κs = search needs
 
--- src/lib.rt:583:5
 store-read-requires : tie.Need-store-read-requires
 store-read-requires c κs = search needs
 
--- src/lib.rt:570:1
 same-length : tie.Need-same-length
 same-length c = search needs
 
--- src/lib.rt:570:1
 same-length-2 : tie.Need-same-length-2
 same-length-2 c = search needs
 
--- src/lib.rt:570:1
 returns : tie.Need-returns
 unfolding tankStep
 returns c = λ m h. c .before .before .before .before .store-read .ensures (tankOf (fieldsAt (take (c .before .before .before .before .before .before .before .before .before .before .before .before .args .end) (now (c .before .before .before .before .before .before .before .before .before .before .before .before .args .text))) (c .before .before .before .before .before .before .before .before .before .before .before .before .args .at))) (node-as-text (now (c .before .before .before .before .before .before .before .before .before .before .before .before .args .text)) (c .before .before .before .before .before .before .before .before .before .before .before .before .args .end) (tankOf (fieldsAt (take (c .before .before .before .before .before .before .before .before .before .before .before .before .args .end) (now (c .before .before .before .before .before .before .before .before .before .before .before .before .args .text))) (c .before .before .before .before .before .before .before .before .before .before .before .before .args .at))) (c .before .before .before .before .before .before .before .read-tank .result) (c .before .before .before .before .before .before .before .read-tank .ensures)) m h

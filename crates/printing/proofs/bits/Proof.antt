@@ -17,27 +17,21 @@ equals-itself nan h = absurd (true≢false h)
 equals-itself (inf s) h = tt
 equals-itself (fin s m e) h = tt
 
--- src/lib.rt:31:15
 slice-aggregate-write : tie.Need-slice-aggregate-write
 slice-aggregate-write c = search needs
 
--- src/lib.rt:31:9
 write-requires : tie.Need-write-requires
 write-requires c κs = search needs
 
--- src/lib.rt:32:9
 returns : tie.Need-returns
 returns c = search needs
 
--- src/lib.rt:34:34
 float-to-bits-print-hex : tie.Need-float-to-bits-print-hex
 float-to-bits-print-hex c = equals-itself _ (c .if1 .left)
 
--- src/lib.rt:34:5
 print-hex-requires : tie.Need-print-hex-requires
 print-hex-requires c κs = search needs
 
--- src/lib.rt:29:1
 returns-2 : tie.Need-returns-2
 returns-2 c = search needs
 

@@ -13,31 +13,24 @@ Inv-loop line i₀ i = i ≤ length line
 abbrev μ-loop : tie.MeasureT-loop
 μ-loop line i₀ i = length line - i
 
--- src/lib.rt:93:5
 loop-holds : tie.Need-loop-holds Inv-loop μ-loop
 loop-holds c = search needs
 
--- src/lib.rt:94:22
 shared-slice-read-plain-letter : tie.Need-shared-slice-read-plain-letter Inv-loop μ-loop
 shared-slice-read-plain-letter c = search needs
 
--- src/lib.rt:94:9
 plain-letter-requires : tie.Need-plain-letter-requires Inv-loop μ-loop
 plain-letter-requires c κs = search needs
 
--- src/lib.rt:95:9
 add-i : tie.Need-add-i Inv-loop μ-loop
 add-i c = search needs
 
--- src/lib.rt:93:5
 loop-less : tie.Need-loop-less Inv-loop μ-loop
 loop-less c = search needs
 
--- src/lib.rt:93:5
 loop-again : tie.Need-loop-again Inv-loop μ-loop
 loop-again c = search needs
 
--- src/lib.rt:91:1
 returns : tie.Need-returns Inv-loop μ-loop
 returns c = search needs
 

@@ -14,39 +14,30 @@ Inv-loop part words owner all n₀ k₀ n k = (k ≤ all) × (n ≤ k)
 abbrev μ-loop : tie.MeasureT-loop
 μ-loop part words owner all n₀ k₀ n k = all - k
 
--- src/main.rt:70:9
 all-parts-requires : tie.Need-all-parts-requires Inv-loop μ-loop
 all-parts-requires c κs = search needs
 
--- src/main.rt:73:5
 loop-holds : tie.Need-loop-holds Inv-loop μ-loop
 loop-holds c = search needs
 
--- src/main.rt:74:21
 belongs-requires : tie.Need-belongs-requires Inv-loop μ-loop
 belongs-requires c κs = search needs
 
--- src/main.rt:74:14
 one-if-requires : tie.Need-one-if-requires Inv-loop μ-loop
 one-if-requires c κs = search needs
 
--- src/main.rt:74:9
 add-n : tie.Need-add-n Inv-loop μ-loop
 add-n c = search needs
 
--- src/main.rt:75:9
 add-k : tie.Need-add-k Inv-loop μ-loop
 add-k c = search needs
 
--- src/main.rt:73:5
 loop-less : tie.Need-loop-less Inv-loop μ-loop
 loop-less c = search needs
 
--- src/main.rt:73:5
 loop-again : tie.Need-loop-again Inv-loop μ-loop
 loop-again c = search needs
 
--- src/main.rt:69:1
 returns : tie.Need-returns Inv-loop μ-loop
 returns c = search needs
 

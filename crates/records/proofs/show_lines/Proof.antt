@@ -12,39 +12,30 @@ Inv-loop classes reasons lines i₀ i = i ≤ lines
 abbrev μ-loop : tie.MeasureT-loop
 μ-loop classes reasons lines i₀ i = lines - i
 
--- src/main.rt:602:5
 loop-holds : tie.Need-loop-holds Inv-loop μ-loop
 loop-holds c = search needs
 
--- src/main.rt:604:23
 add-show-line : tie.Need-add-show-line Inv-loop μ-loop
 add-show-line c = search needs
 
--- src/main.rt:604:30
 element-copy-out-show-line : tie.Need-element-copy-out-show-line Inv-loop μ-loop
 element-copy-out-show-line c = search needs
 
--- src/main.rt:604:42
 element-copy-out-show-line-2 : tie.Need-element-copy-out-show-line-2 Inv-loop μ-loop
 element-copy-out-show-line-2 c = search needs
 
--- src/main.rt:604:13
 show-line-requires : tie.Need-show-line-requires Inv-loop μ-loop
 show-line-requires c κs = search needs
 
--- src/main.rt:606:9
 add-i : tie.Need-add-i Inv-loop μ-loop
 add-i c = search needs
 
--- src/main.rt:602:5
 loop-less : tie.Need-loop-less Inv-loop μ-loop
 loop-less c = search needs
 
--- src/main.rt:602:5
 loop-again : tie.Need-loop-again Inv-loop μ-loop
 loop-again c = search needs
 
--- src/main.rt:600:1
 returns : tie.Need-returns Inv-loop μ-loop
 returns c = search needs
 

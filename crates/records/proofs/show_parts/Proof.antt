@@ -14,35 +14,27 @@ Inv-loop part text words numbers owner all k₀ k = k ≤ all
 abbrev μ-loop : tie.MeasureT-loop
 μ-loop part text words numbers owner all k₀ k = all - k
 
--- src/main.rt:271:9
 all-parts-requires : tie.Need-all-parts-requires Inv-loop μ-loop
 all-parts-requires c κs = search needs
 
--- src/main.rt:273:5
 loop-holds : tie.Need-loop-holds Inv-loop μ-loop
 loop-holds c = search needs
 
--- src/main.rt:274:12
 belongs-requires : tie.Need-belongs-requires Inv-loop μ-loop
 belongs-requires c κs = search needs
 
--- src/main.rt:275:13
 show-part-requires : tie.Need-show-part-requires Inv-loop μ-loop
 show-part-requires c κs = search needs
 
--- src/main.rt:277:9
 add-k : tie.Need-add-k Inv-loop μ-loop
 add-k c = search needs
 
--- src/main.rt:273:5
 loop-less : tie.Need-loop-less Inv-loop μ-loop
 loop-less c = search needs
 
--- src/main.rt:273:5
 loop-again : tie.Need-loop-again Inv-loop μ-loop
 loop-again c = search needs
 
--- src/main.rt:270:1
 returns : tie.Need-returns Inv-loop μ-loop
 returns c = search needs
 

@@ -13,31 +13,24 @@ Inv-loop kind text words numbers all i₀ i = i ≤ all
 abbrev μ-loop : tie.MeasureT-loop
 μ-loop kind text words numbers all i₀ i = all - i
 
--- src/main.rt:565:9
 all-records-requires : tie.Need-all-records-requires Inv-loop μ-loop
 all-records-requires c κs = search needs
 
--- src/main.rt:567:5
 loop-holds : tie.Need-loop-holds Inv-loop μ-loop
 loop-holds c = search needs
 
--- src/main.rt:568:9
 show-record-requires : tie.Need-show-record-requires Inv-loop μ-loop
 show-record-requires c κs = search needs
 
--- src/main.rt:569:9
 add-i : tie.Need-add-i Inv-loop μ-loop
 add-i c = search needs
 
--- src/main.rt:567:5
 loop-less : tie.Need-loop-less Inv-loop μ-loop
 loop-less c = search needs
 
--- src/main.rt:567:5
 loop-again : tie.Need-loop-again Inv-loop μ-loop
 loop-again c = search needs
 
--- src/main.rt:564:1
 returns : tie.Need-returns Inv-loop μ-loop
 returns c = search needs
 

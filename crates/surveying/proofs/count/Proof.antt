@@ -19,41 +19,33 @@ Inv-loop xs k n₀ i₀ n i = n + countIn k (drop i xs) ≡ countIn k xs
 abbrev μ-loop : tie.MeasureT-loop
 μ-loop xs k n₀ i₀ n i = length xs - i
 
--- src/lib.rt:676:5
 loop-holds : tie.Need-loop-holds Inv-loop μ-loop
 loop-holds c = omega arith
 
--- src/lib.rt:677:18
 shared-slice-read-one : tie.Need-shared-slice-read-one Inv-loop μ-loop
 shared-slice-read-one c = omega arith
 
--- src/lib.rt:677:14
 one-requires : tie.Need-one-requires Inv-loop μ-loop
 one-requires c κs = search needs
 
--- src/lib.rt:677:9
 add-n : tie.Need-add-n Inv-loop μ-loop
 add-n c =
     let p = c .before .before .before in
     let a = p .before .before .args in
     omega (arith, count-at (a .k) (now (a .xs)) (p .loop .i) (c .before .before .loop-test .taken), c .one .ensures, count-le (a .k) (now (a .xs)))
 
--- src/lib.rt:678:9
 add-i : tie.Need-add-i Inv-loop μ-loop
 add-i c = omega arith
 
--- src/lib.rt:676:5
 loop-less : tie.Need-loop-less Inv-loop μ-loop
 loop-less c = omega arith
 
--- src/lib.rt:676:5
 loop-again : tie.Need-loop-again Inv-loop μ-loop
 loop-again c =
     let p = c .before .before .before in
     let a = p .before .before .args in
     rw add-one (omega (arith, count-at (a .k) (now (a .xs)) (p .loop .i) (c .before .before .loop-test .taken), c .one .ensures))
 
--- src/lib.rt:671:1
 returns : tie.Need-returns Inv-loop μ-loop
 returns c =
     let p = c .before in

@@ -9,43 +9,33 @@ use Rattle.fields.proofs.cut.Reads as cut-reads
 use Rattle.surveying.proofs.count.Reads as count-reads
 use Rattle.lines.specs.Tables.{countIn}
 
--- src/lib.rt:686:9
 cut-requires : tie.Need-cut-requires
 cut-requires c κs = search needs
 
--- src/lib.rt:690:16
 count-requires : tie.Need-count-requires
 count-requires c κs = search needs
 
--- src/lib.rt:691:17
 count-requires-2 : tie.Need-count-requires-2
 count-requires-2 c κs = search needs
 
--- src/lib.rt:692:17
 count-requires-3 : tie.Need-count-requires-3
 count-requires-3 c κs = search needs
 
--- src/lib.rt:693:16
 count-requires-4 : tie.Need-count-requires-4
 count-requires-4 c κs = search needs
 
--- src/lib.rt:694:18
 count-requires-5 : tie.Need-count-requires-5
 count-requires-5 c κs = search needs
 
--- src/lib.rt:695:20
 count-requires-6 : tie.Need-count-requires-6
 count-requires-6 c κs = search needs
 
--- src/lib.rt:696:22
 count-requires-7 : tie.Need-count-requires-7
 count-requires-7 c κs = search needs
 
--- src/lib.rt:697:19
 count-requires-8 : tie.Need-count-requires-8
 count-requires-8 c κs = search needs
 
--- src/lib.rt:683:1
 returns : tie.Need-returns
 unfolding counted
 returns c =

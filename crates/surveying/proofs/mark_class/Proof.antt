@@ -9,38 +9,30 @@ use Rattle.surveying.proofs.mark_class.Reads as reads
 use Rattle.surveying.proofs.mark_class.Lts as lts
 use Rattle.surveying.proofs.refill.Reads as refill-reads
 
--- src/lib.rt:647:9
 slice-write-classes : tie.Need-slice-write-classes
 slice-write-classes c = search needs
 
--- src/lib.rt:648:9
 same-length : tie.Need-same-length
 same-length c = search needs
 
--- src/lib.rt:648:9
 returns : tie.Need-returns
 returns c = rw (eq-eqb (c .before .before .args .closed) 0 (c .if1 .taken))
 
--- src/lib.rt:650:21
 sub-refill : tie.Need-sub-refill
 sub-refill c = c .before .before .before .pre .1 (c .before .if1 .left) .0
 
--- src/lib.rt:650:5
 refill-requires : tie.Need-refill-requires
 refill-requires c κs =
     let p = c .before .before .before in
     let z = p .pre .1 (c .before .if1 .left) in
     (omega (arith, z .0, z .1), omega (arith, p .pre .0))
 
--- src/lib.rt:651:5
 slice-write-classes-2 : tie.Need-slice-write-classes-2
 slice-write-classes-2 c = search needs
 
--- src/lib.rt:642:1
 same-length-2 : tie.Need-same-length-2
 same-length-2 c = search needs
 
--- src/lib.rt:642:1
 returns-2 : tie.Need-returns-2
 returns-2 c =
     let u = c .before .before in

@@ -4,11 +4,9 @@ use Rattle.surveying.proofs.one.Tie as tie
 use Rattle.surveying.proofs.one.Reads as reads
 use Rattle.surveying.proofs.one.Lts as lts
 
--- src/lib.rt:665:1
 returns : tie.Need-returns
 returns c = rw (eq-eqb (c .before .args .b) (c .before .args .k) (c .if1 .taken))
 
--- src/lib.rt:665:1
 returns-2 : tie.Need-returns-2
 returns-2 c = rw (ne-eqb (c .before .args .b) (c .before .args .k) (c .if1 .left))
 

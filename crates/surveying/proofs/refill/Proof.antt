@@ -18,31 +18,24 @@ Inv-loop classes₀ from to k i₀ classes i = (from ≤ i) × (i ≤ to) × (le
 abbrev μ-loop : tie.MeasureT-loop
 μ-loop classes₀ from to k i₀ classes i = to - i
 
--- src/lib.rt:635:5
 loop-holds : tie.Need-loop-holds Inv-loop μ-loop
 loop-holds c = let a = c .before .args in (omega arith, c .before .pre .0, refl, refilled-none (now (a .classes)) (a .from) (a .k))
 
--- src/lib.rt:636:27
 slice-read-swap : tie.Need-slice-read-swap Inv-loop μ-loop
 slice-read-swap c = omega arith
 
--- src/lib.rt:636:22
 swap-requires : tie.Need-swap-requires Inv-loop μ-loop
 swap-requires c κs = search needs
 
--- src/lib.rt:636:9
 slice-write-classes : tie.Need-slice-write-classes Inv-loop μ-loop
 slice-write-classes c = omega arith
 
--- src/lib.rt:637:9
 add-i : tie.Need-add-i Inv-loop μ-loop
 add-i c = omega arith
 
--- src/lib.rt:635:5
 loop-less : tie.Need-loop-less Inv-loop μ-loop
 loop-less c = omega arith
 
--- src/lib.rt:635:5
 loop-again : tie.Need-loop-again Inv-loop μ-loop
 loop-again c =
     let p = c .before .before .before in
@@ -56,11 +49,9 @@ loop-again c =
           (c .swap .ensures ∙ ap (λ x. swapped (a .k) (getD x (p .loop .i) 0)) (v .3)),
     )
 
--- src/lib.rt:630:1
 same-length : tie.Need-same-length Inv-loop μ-loop
 same-length c = c .before .loop .inv .2
 
--- src/lib.rt:630:1
 returns : tie.Need-returns Inv-loop μ-loop
 returns c =
     let p = c .before in

@@ -4,11 +4,9 @@ use Rattle.surveying.proofs.swap.Tie as tie
 use Rattle.surveying.proofs.swap.Reads as reads
 use Rattle.surveying.proofs.swap.Lts as lts
 
--- src/lib.rt:623:1
 returns : tie.Need-returns
 returns c = rw (eq-eqb (c .before .args .b) 8 (c .if1 .taken))
 
--- src/lib.rt:623:1
 returns-2 : tie.Need-returns-2
 returns-2 c = rw (ne-eqb (c .before .args .b) 8 (c .if1 .left))
 

@@ -4,27 +4,21 @@ use Rattle.takers.proofs.as_number.Tie as tie
 use Rattle.takers.proofs.as_number.Reads as reads
 use Rattle.takers.proofs.as_number.Lts as lts
 
--- src/lib.rt:26:23
 enum-known-n : tie.Need-enum-known-n
 enum-known-n c = search needs
 
--- src/lib.rt:27:51
 enum-told : tie.Need-enum-told
 enum-told c = search needs
 
--- src/lib.rt:28:48
 enum-told-2 : tie.Need-enum-told-2
 enum-told-2 c = search needs
 
--- src/lib.rt:22:1
 returns : tie.Need-returns
 returns c = rw (c .before .n .given .1)
 
--- src/lib.rt:22:1
 returns-2 : tie.Need-returns-2
 returns-2 c = rw (c .enum-told .given .1)
 
--- src/lib.rt:22:1
 returns-3 : tie.Need-returns-3
 returns-3 c = rw (c .enum-told2 .given .1)
 

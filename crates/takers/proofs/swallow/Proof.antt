@@ -5,22 +5,18 @@ use Rattle.takers.proofs.swallow.Tie as tie
 use Rattle.takers.proofs.swallow.Reads as reads
 use Rattle.takers.proofs.swallow.Lts as lts
 
--- src/lib.rt:56:23
 enum-known-n : tie.Need-enum-known-n
 enum-known-n c = search needs
 
 enum-told : tie.Need-enum-told
 enum-told c = search needs
 
--- src/lib.rt:58:13
 returns : tie.Need-returns
 returns c = beyond (c .before .before .args .other) (c .before .before .args .n) (c .before .before .args .next) (c .before .match .keys2) (c .match2 .keys2)
 
--- src/lib.rt:60:9
 returns-2 : tie.Need-returns-2
 returns-2 c = rw (c .enum-told .given .1)
 
--- src/lib.rt:53:1
 returns-3 : tie.Need-returns-3
 returns-3 c = rw (c .before .n .given .1)
 

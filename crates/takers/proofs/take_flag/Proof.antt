@@ -14,51 +14,39 @@ use Rattle.fields.proofs.next_field.Reads as next-field-reads
 field : (c : tie.After-known-told) → fieldsAt (now (c .before .before .before .before .before .args .l)) (c .before .before .before .before .before .args .at) ≡ nameIn (now (c .before .before .before .before .before .args .l)) (c .before .f .given .0 .0) ∷ fieldsAt (now (c .before .before .before .before .before .args .l)) (c .before .f .given .0 .0 .end)
 field c = c .before .before .before .next-field .ensures .taken _ (c .before .f .given .1) .0
 
--- src/lib.rt:84:9
 next-field-requires : tie.Need-next-field-requires
 next-field-requires c κs = search needs
 
--- src/lib.rt:85:22
 enum-known-f : tie.Need-enum-known-f
 enum-known-f c = search needs
 
--- src/lib.rt:86:9
 enum-told : tie.Need-enum-told
 enum-told c = search needs
 
--- src/lib.rt:86:9
 returns : tie.Need-returns
 returns c = rw (c .before .before .next-field .ensures .nothing (c .enum-told .given .1))
 
--- src/lib.rt:88:9
 letters-of-requires : tie.Need-letters-of-requires
 letters-of-requires c κs = search needs
 
--- src/lib.rt:89:28
 slice-aggregate-equal : tie.Need-slice-aggregate-equal
 slice-aggregate-equal c = search needs
 
--- src/lib.rt:89:8
 equal-requires : tie.Need-equal-requires
 equal-requires c κs = search needs
 
--- src/lib.rt:90:9
 returns-2 : tie.Need-returns-2
 returns-2 c = rw (field (c .before .before .before .before), ← c .before .before .before .letters-of .ensures, sym (c .before .equal .ensures) ∙ c .if1 .taken)
 
--- src/lib.rt:92:28
 slice-aggregate-equal-2 : tie.Need-slice-aggregate-equal-2
 slice-aggregate-equal-2 c = search needs
 
--- src/lib.rt:92:8
 equal-requires-2 : tie.Need-equal-requires-2
 equal-requires-2 c κs = search needs
 
--- src/lib.rt:93:9
 returns-3 : tie.Need-returns-3
 returns-3 c = rw (field (c .before .before .before .before .before .before .before), ← c .before .before .before .before .before .before .letters-of .ensures, sym (c .before .before .before .before .equal .ensures) ∙ c .before .before .before .if1 .left, sym (c .before .equal2 .ensures) ∙ c .if2 .taken)
 
--- src/lib.rt:81:1
 returns-4 : tie.Need-returns-4
 returns-4 c = rw (field (c .before .before .before .before .before .before .before), ← c .before .before .before .before .before .before .letters-of .ensures, sym (c .before .before .before .before .equal .ensures) ∙ c .before .before .before .if1 .left, sym (c .before .equal2 .ensures) ∙ c .if2 .left)
 

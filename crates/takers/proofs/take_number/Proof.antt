@@ -16,35 +16,27 @@ use Rattle.takers.proofs.as_number.Reads as as-number-reads
 field : (c : tie.After-known-told) → fieldsAt (now (c .before .before .before .before .before .args .l)) (c .before .before .before .before .before .args .at) ≡ nameIn (now (c .before .before .before .before .before .args .l)) (c .before .f .given .0 .0) ∷ fieldsAt (now (c .before .before .before .before .before .args .l)) (c .before .f .given .0 .0 .end)
 field c = c .before .before .before .next-field .ensures .taken _ (c .before .f .given .1) .0
 
--- src/lib.rt:36:9
 next-field-requires : tie.Need-next-field-requires
 next-field-requires c κs = search needs
 
--- src/lib.rt:37:22
 enum-known-f : tie.Need-enum-known-f
 enum-known-f c = search needs
 
--- src/lib.rt:38:37
 enum-told : tie.Need-enum-told
 enum-told c = search needs
 
--- src/lib.rt:38:9
 returns : tie.Need-returns
 returns c = rw (c .before .before .next-field .ensures .nothing (c .enum-told .given .1))
 
--- src/lib.rt:40:37
 letters-of-requires : tie.Need-letters-of-requires
 letters-of-requires c κs = search needs
 
--- src/lib.rt:40:15
 read-number-requires : tie.Need-read-number-requires
 read-number-requires c κs = search needs
 
--- src/lib.rt:40:5
 as-number-requires : tie.Need-as-number-requires
 as-number-requires c κs = search needs
 
--- src/lib.rt:33:1
 returns-2 : tie.Need-returns-2
 returns-2 c = rw (c .as-number .ensures, field (c .before .before .before)) (took-as (now (c .before .before .before .before .before .before .before .before .args .l)) (c .before .read-number .result) (c .before .before .before .before .f .given .0 .0 .end) ∙ rw (c .before .read-number .ensures .0, c .before .before .letters-of .ensures))
 

@@ -11,23 +11,18 @@ use Rattle.fields.proofs.field_or.Reads as field-or-reads
 use Rattle.fields.proofs.past_field.Reads as past-field-reads
 use Rattle.takers.proofs.as_number.Reads as as-number-reads
 
--- src/lib.rt:47:9
 field-or-requires : tie.Need-field-or-requires
 field-or-requires c κs = search needs
 
--- src/lib.rt:48:9
 past-field-requires : tie.Need-past-field-requires
 past-field-requires c κs = search needs
 
--- src/lib.rt:49:15
 read-number-requires : tie.Need-read-number-requires
 read-number-requires c κs = search needs
 
--- src/lib.rt:49:5
 as-number-requires : tie.Need-as-number-requires
 as-number-requires c κs = search needs
 
--- src/lib.rt:44:1
 returns : tie.Need-returns
 returns c = rw (c .as-number .ensures) (took-as (now (c .before .before .before .before .before .before .args .l)) (c .before .read-number .result) (c .before .before .past-field .result) ∙ rw (c .before .read-number .ensures .0, c .before .before .before .field-or .ensures, c .before .before .past-field .ensures .left))
 

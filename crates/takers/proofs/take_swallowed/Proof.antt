@@ -16,35 +16,27 @@ use Rattle.takers.proofs.swallow.Reads as swallow-reads
 field : (c : tie.After-known-told) → fieldsAt (now (c .before .before .before .before .before .args .l)) (c .before .before .before .before .before .args .at) ≡ nameIn (now (c .before .before .before .before .before .args .l)) (c .before .f .given .0 .0) ∷ fieldsAt (now (c .before .before .before .before .before .args .l)) (c .before .f .given .0 .0 .end)
 field c = c .before .before .before .next-field .ensures .taken _ (c .before .f .given .1) .0
 
--- src/lib.rt:69:9
 next-field-requires : tie.Need-next-field-requires
 next-field-requires c κs = search needs
 
--- src/lib.rt:70:22
 enum-known-f : tie.Need-enum-known-f
 enum-known-f c = search needs
 
--- src/lib.rt:71:9
 enum-told : tie.Need-enum-told
 enum-told c = search needs
 
--- src/lib.rt:71:9
 returns : tie.Need-returns
 returns c = rw (c .before .before .next-field .ensures .nothing (c .enum-told .given .1))
 
--- src/lib.rt:74:31
 letters-of-requires : tie.Need-letters-of-requires
 letters-of-requires c κs = search needs
 
--- src/lib.rt:74:9
 read-number-requires : tie.Need-read-number-requires
 read-number-requires c κs = search needs
 
--- src/lib.rt:73:5
 swallow-requires : tie.Need-swallow-requires
 swallow-requires c κs = search needs
 
--- src/lib.rt:66:1
 returns-2 : tie.Need-returns-2
 returns-2 c = rw (c .swallow .ensures, field (c .before .before .before)) (swallowed-as (now (c .before .before .before .before .before .before .before .before .args .l)) (c .before .before .before .before .before .before .before .before .args .other) (c .before .read-number .result) (c .before .before .before .before .f .given .0 .0 .end) ∙ rw (c .before .read-number .ensures .0, c .before .before .letters-of .ensures))
 

@@ -13,39 +13,30 @@ Inv-loop reasons i₀ i = i ≤ length reasons
 abbrev μ-loop : tie.MeasureT-loop
 μ-loop reasons i₀ i = length reasons - i
 
--- src/main.rt:69:5
 loop-holds : tie.Need-loop-holds Inv-loop μ-loop
 loop-holds c = search needs
 
--- src/main.rt:70:12
 shared-slice-read-if1 : tie.Need-shared-slice-read-if1 Inv-loop μ-loop
 shared-slice-read-if1 c = search needs
 
--- src/main.rt:71:26
 add-show-refusal : tie.Need-add-show-refusal Inv-loop μ-loop
 add-show-refusal c = search needs
 
--- src/main.rt:71:33
 shared-slice-read-show-refusal : tie.Need-shared-slice-read-show-refusal Inv-loop μ-loop
 shared-slice-read-show-refusal c = search needs
 
--- src/main.rt:71:13
 show-refusal-requires : tie.Need-show-refusal-requires Inv-loop μ-loop
 show-refusal-requires c κs = search needs
 
--- src/main.rt:73:9
 add-i : tie.Need-add-i Inv-loop μ-loop
 add-i c = search needs
 
--- src/main.rt:69:5
 loop-less : tie.Need-loop-less Inv-loop μ-loop
 loop-less c = search needs
 
--- src/main.rt:69:5
 loop-again : tie.Need-loop-again Inv-loop μ-loop
 loop-again c = search needs
 
--- src/main.rt:67:1
 returns : tie.Need-returns Inv-loop μ-loop
 returns c = search needs
 
