@@ -37,7 +37,8 @@ use Rattle.scope.specs.declared.Value.{Value}
 use Rattle.scope.specs.declared.Value.the-variants.{Number, Status}
 use Rattle.tables.specs.Layout.{nodesAt, linksAt, curvesAt, pointsAt, patternsAt, multipliersAt, demandsAt, timesAt, rulesAt, clausesAt, nodeSize, linkSize, idSize, demandSize, timeSize, ruleSize, clauseSize, nodeNumbersAt, linkNumbersAt, pointNumbersAt, multiplierNumbersAt, demandNumbersAt, clauseNumbersAt, nodeNumbersSize, linkNumbersSize, pointNumbersSize}
 use Rattle.tables.specs.Holding.{noDemand, noRule}
-use Rattle.stored.specs.Back.{Stands, noPoint, noMultiplier, noClause, spanFrom, foundFrom, amountFrom, pipeStatusFrom, statusFrom, typeFrom, targetFrom, comparisonFrom, operatorFrom, valueFrom, nodeBy, linkBy, curveBy, patternBy, pointBy, multiplierBy, demandBy, ruleBy, clauseBy, countsBy, placeFound, amountOf, nodeBack, linkBack, curveBack, patternBack, pointBack, multiplierBack, demandBack, ruleBack, clauseBack}
+use Rattle.stored.specs.Back.{Stands, noPoint, noMultiplier, noClause, spanFrom, foundFrom, amountFrom, pipeStatusFrom, statusFrom, typeFrom, targetFrom, comparisonFrom, operatorFrom, valueFrom, clauseBy, placeFound, amountOf, nodeBack, linkBack, curveBack, patternBack, pointBack, multiplierBack, demandBack, ruleBack, clauseBack}
+use Rattle.stored.proofs.Whole.{nodeBy, linkBy, curveBy, patternBy, pointBy, multiplierBy, demandBy, ruleBy, countsBy}
 use Rattle.decimals.proofs.Whole.{le-or-lt}
 use Rattle.tables.proofs.SizeLaws.{node-words-lie, link-words-lie, curve-words-lie, point-words-lie, pattern-words-lie, multiplier-words-lie, demand-words-lie, rule-words-lie, clause-words-lie, node-numbers-lie, link-numbers-lie, point-numbers-lie, multiplier-numbers-lie, demand-numbers-lie, clause-numbers-lie}
 use Rattle.tables.proofs.ReadLaws.{one-place, node-word, link-word, time-word, clause-word, node-number, link-number, clause-number}

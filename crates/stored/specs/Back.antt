@@ -13,7 +13,6 @@ use Rattle.fields.specs.declared.Field.the-variants.{Taken, Nothing}
 use Rattle.scope.specs.Records as R
 use Rattle.scope.specs.Records.{Network, zeroF, noName, junction, reservoir, tank, pipe, pump, valve, condition, action}
 use Rattle.scope.specs.Tables.{recordWords, roomNumbers}
-use Rattle.scope.specs.declared.Counts.{Counts}
 use Rattle.scope.specs.declared.Found.{Found}
 use Rattle.scope.specs.declared.Found.the-variants.{At, Nowhere}
 use Rattle.scope.specs.declared.PipeStatus.{PipeStatus}
@@ -153,9 +152,6 @@ tankBy a b = record { elevation = b 0; initial = b 1; minimum = b 2; maximum = b
 abbrev pub kindBy : (ℕ → ℕ) → (ℕ → Float) → kindOut.NodeKind
 kindBy a b = cond (eqb (a 3) 2) (nodeIs.Reservoir (reservoirBy a b)) (cond (eqb (a 3) 3) (nodeIs.Tank (tankBy a b)) (nodeIs.Junction (junctionBy a b)))
 
-abbrev pub nodeBy : (ℕ → ℕ) → (ℕ → Float) → nodeOut.Node
-nodeBy a b = record { id = spanFrom (a 0) (a 1); kind = kindBy a b; placed = eqb (a 7) 1; x = b 6; y = b 7 }
-
 abbrev pub pipeBy : (ℕ → ℕ) → (ℕ → Float) → pipeOut.Pipe
 pipeBy a b = record { long = b 0; diameter = b 1; roughness = b 2; minor = b 3; status = pipeStatusFrom (a 6) }
 
@@ -168,27 +164,6 @@ valveBy a b = record { setting = b 0; diameter = b 1; minor = b 3; sort = typeFr
 abbrev pub linkKindBy : (ℕ → ℕ) → (ℕ → Float) → linkKindOut.LinkKind
 linkKindBy a b = cond (eqb (a 5) 2) (linkIs.Pump (pumpBy a b)) (cond (eqb (a 5) 3) (linkIs.Valve (valveBy a b)) (linkIs.Pipe (pipeBy a b)))
 
-abbrev pub linkBy : (ℕ → ℕ) → (ℕ → Float) → linkOut.Link
-linkBy a b = record { id = spanFrom (a 0) (a 1); start = a 3; end = a 4; kind = linkKindBy a b }
-
-abbrev pub curveBy : (ℕ → ℕ) → curveOut.Curve
-curveBy a = record { id = spanFrom (a 0) (a 1) }
-
-abbrev pub patternBy : (ℕ → ℕ) → patternOut.Pattern
-patternBy a = record { id = spanFrom (a 0) (a 1) }
-
-abbrev pub pointBy : ℕ → (ℕ → Float) → pointOut.Point
-pointBy curve b = record { curve = curve; x = b 0; y = b 1 }
-
-abbrev pub multiplierBy : ℕ → Float → multiplierOut.Multiplier
-multiplierBy pattern x = record { pattern = pattern; value = x }
-
-abbrev pub demandBy : (ℕ → ℕ) → Float → demandOut.Demand
-demandBy a x = record { node = a 0; own = eqb (a 1) 1; base = x; pattern = fieldFrom (a 2) (a 3); index = foundFrom (a 4) }
-
-abbrev pub ruleBy : (ℕ → ℕ) → ruleOut.Rule
-ruleBy a = record { id = spanFrom (a 0) (a 1); first = a 3; count = a 4; priority = amountFrom (a 5) (a 6) }
-
 abbrev pub conditionBy : (ℕ → ℕ) → Float → conditionOut.Condition
 conditionBy a x = record { operator = operatorFrom (a 1); target = targetFrom (a 2); name = fieldFrom (a 5) (a 6); comparison = comparisonFrom (a 3); value = valueFrom (a 4) x }
 
@@ -197,9 +172,6 @@ actionBy a x = record { link = a 2; name = spanFrom (a 5) (a 6); value = valueFr
 
 abbrev pub clauseBy : (ℕ → ℕ) → Float → clauseOut.Clause
 clauseBy a x = cond (eqb (a 0) 1) (clauseIs.Condition (conditionBy a x)) (clauseIs.Action (actionBy a x))
-
-abbrev pub countsBy : (ℕ → ℕ) → Counts
-countsBy a = record { nodes = a 0; links = a 1; curves = a 2; points = a 3; patterns = a 4; multipliers = a 5; demands = a 6; rules = a 7; clauses = a 8 }
 
 -- ---- a record of the network, as the code has it
 abbrev pub nameSpan : Name → Span
