@@ -1,111 +1,29 @@
 -- What is read from a record's words and numbers is the record. Assumes nothing.
-use Prim.Native.Nat.{ℕ, suc, _+_, _-_, _*_, _≤_, _<_}
+use Prim.Native.Nat.{ℕ, _+_, _-_, _*_, _≤_, _<_}
 use native.Mathlib.Omega.{arith}
 use native.Mathlib.Nat.{add-zero}
 use mathlib.Core.Path.{_≡_, refl, sym, ap, _∙_}
-use mathlib.Core.Bool.{Bool, true, false}
 use mathlib.Core.Logic.{inl, inr}
 use mathlib.Core.List.{List, _++_}
 use mathlib.Core.Option.{Option, none, some}
 use lib.ListN.{length, getD, take, drop, replicate, length-append, length-drop, List·getD-eq-default}
 use lib.Seq.{getD-drop, getD-take}
-use lib.Dec.{eqb}
 use lib.Ieee.{Float, nan}
-use borrow.Author.Tests.{ne-eqb}
 use Rattle.fields.specs.Fields.{Name}
 use Rattle.scope.specs.Records.{Network, Node, NodeKind, junction, reservoir, tank, Reservoir, Tank, Place, Link, LinkKind, pipe, pump, valve, Pump, Valve, Demand, Rule, Clause, condition, action, Condition, noNode, noName, zeroF, countsOf}
 use Rattle.scope.specs.Rules.{noLink}
-use Rattle.scope.specs.Tables.{packed, flag, indexNo, pipeStatusNo, statusNo, typeNo, targetNo, comparisonNo, operatorNo, valueNo, valueNumber, idWords, countWords, nodeWords, nodeNumbers, linkWords, linkNumbers, pointNumbers, demandWords, ruleWords, clauseWords, clauseNumbers, recordWords, roomWords, roomNumbers, tallyWords}
+use Rattle.scope.specs.Tables.{packed, idWords, nodeWords, nodeNumbers, linkWords, linkNumbers, pointNumbers, demandWords, ruleWords, clauseWords, clauseNumbers, recordWords, roomWords, roomNumbers, tallyWords}
 use Rattle.scope.specs.declared.Counts.{Counts}
-use Rattle.scope.specs.declared.PipeStatus.{PipeStatus}
-use Rattle.scope.specs.declared.PipeStatus.the-variants as pipeIs
-use Rattle.scope.specs.declared.LinkStatus.{LinkStatus}
-use Rattle.scope.specs.declared.LinkStatus.the-variants.{Open, Closed, Active}
-use Rattle.scope.specs.declared.ValveType.{ValveType}
-use Rattle.scope.specs.declared.ValveType.the-variants.{Gpv, Tcv, Fcv, Prv, Psv, Pbv, Pcv}
-use Rattle.scope.specs.declared.Target.{Target}
-use Rattle.scope.specs.declared.Target.the-variants as target
-use Rattle.scope.specs.declared.SystemAttribute.the-variants as system
-use Rattle.scope.specs.declared.NodeAttribute.the-variants as node
-use Rattle.scope.specs.declared.TankAttribute.the-variants as tankHas
-use Rattle.scope.specs.declared.LinkAttribute.the-variants as link
-use Rattle.scope.specs.declared.Comparison.{Comparison}
-use Rattle.scope.specs.declared.Comparison.the-variants.{Equal, Differs, Above, Below, AtLeast, AtMost}
-use Rattle.scope.specs.declared.Operator.{Operator}
-use Rattle.scope.specs.declared.Operator.the-variants.{And, Or}
-use Rattle.scope.specs.declared.Value.{Value}
-use Rattle.scope.specs.declared.Value.the-variants.{Number, Status}
 use Rattle.tables.specs.Layout.{nodesAt, linksAt, curvesAt, pointsAt, patternsAt, multipliersAt, demandsAt, timesAt, rulesAt, clausesAt, nodeSize, linkSize, idSize, demandSize, timeSize, ruleSize, clauseSize, nodeNumbersAt, linkNumbersAt, pointNumbersAt, multiplierNumbersAt, demandNumbersAt, clauseNumbersAt, nodeNumbersSize, linkNumbersSize, pointNumbersSize}
 use Rattle.tables.specs.Holding.{noDemand, noRule}
-use Rattle.stored.specs.Back.{Stands, noPoint, noMultiplier, noClause, spanFrom, foundFrom, amountFrom, pipeStatusFrom, statusFrom, typeFrom, targetFrom, comparisonFrom, operatorFrom, valueFrom, clauseBy, placeFound, amountOf, nodeBack, linkBack, curveBack, patternBack, pointBack, multiplierBack, demandBack, ruleBack, clauseBack}
+use Rattle.codes.proofs.CodeLaws.{flag-back, found-back, pipe-status-back, type-back, target-back, comparison-back, operator-back, value-back, amount-back}
+use Rattle.codes.specs.Codes.{spanFrom, amountFrom, amountOf}
+use Rattle.stored.specs.Back.{Stands, noPoint, noMultiplier, noClause, clauseBy, nodeBack, linkBack, curveBack, patternBack, pointBack, multiplierBack, demandBack, ruleBack, clauseBack}
 use Rattle.stored.proofs.Whole.{nodeBy, linkBy, curveBy, patternBy, pointBy, multiplierBy, demandBy, ruleBy, countsBy}
 use Rattle.decimals.proofs.Whole.{le-or-lt}
 use Rattle.tables.proofs.SizeLaws.{node-words-lie, link-words-lie, curve-words-lie, point-words-lie, pattern-words-lie, multiplier-words-lie, demand-words-lie, rule-words-lie, clause-words-lie, node-numbers-lie, link-numbers-lie, point-numbers-lie, multiplier-numbers-lie, demand-numbers-lie, clause-numbers-lie}
 use Rattle.tables.proofs.ReadLaws.{one-place, node-word, link-word, time-word, clause-word, node-number, link-number, clause-number}
 use Rattle.stored.proofs.PastLaws.{past-word, any-word}
-
--- ---- small values
-flag-back : (b : Bool) → eqb (flag b) 1 ≡ b
-flag-back true = refl
-flag-back false = refl
-
-found-back : (o : Option ℕ) → foundFrom (indexNo o) ≡ placeFound o
-found-back none = refl
-found-back (some i) =
-    let more : eqb (suc i) 0 ≡ false = ne-eqb (suc i) 0 (λ e. omega arith) in
-    let less : suc i - 1 ≡ i = omega arith in
-    rw (more, less)
-
-pipe-status-back : (s : PipeStatus) → pipeStatusFrom (pipeStatusNo s) ≡ s
-pipe-status-back pipeIs.Open = refl
-pipe-status-back pipeIs.Closed = refl
-pipe-status-back pipeIs.CheckValve = refl
-
-status-back : (s : LinkStatus) → statusFrom (statusNo s) ≡ s
-status-back Open = refl
-status-back Closed = refl
-status-back Active = refl
-
-type-back : (t : ValveType) → typeFrom (typeNo t) ≡ t
-type-back Gpv = refl
-type-back Tcv = refl
-type-back Fcv = refl
-type-back Prv = refl
-type-back Psv = refl
-type-back Pbv = refl
-type-back Pcv = refl
-
-target-back : (t : Target) → targetFrom (targetNo t) ≡ t
-target-back (target.System system.Demand) = refl
-target-back (target.System system.Time) = refl
-target-back (target.System system.ClockTime) = refl
-target-back (target.Node node.Demand) = refl
-target-back (target.Node node.Head) = refl
-target-back (target.Node node.Pressure) = refl
-target-back (target.Tank tankHas.Level) = refl
-target-back (target.Tank tankHas.FillTime) = refl
-target-back (target.Tank tankHas.DrainTime) = refl
-target-back (target.Link link.Flow) = refl
-target-back (target.Link link.Status) = refl
-target-back (target.Link link.Setting) = refl
-
-comparison-back : (c : Comparison) → comparisonFrom (comparisonNo c) ≡ c
-comparison-back Equal = refl
-comparison-back Differs = refl
-comparison-back Above = refl
-comparison-back Below = refl
-comparison-back AtLeast = refl
-comparison-back AtMost = refl
-
-operator-back : (o : Operator) → operatorFrom (operatorNo o) ≡ o
-operator-back And = refl
-operator-back Or = refl
-
-value-back : (v : Value) → valueFrom (valueNo v) (valueNumber v) ≡ v
-value-back (Number x) = refl
-value-back (Status Open) = refl
-value-back (Status Closed) = refl
-value-back (Status Active) = refl
 
 -- ---- nodes
 abbrev wordsIn : List ℕ → ℕ → ℕ
@@ -191,10 +109,6 @@ demand-back : (d : Demand) (n : Option Name) → let e : Demand = record { node 
     demandBy (wordsIn (demandWords e)) (e .base) ≡ demandBack e
 demand-back d none = rw (flag-back (d .own), found-back (d .index))
 demand-back d (some n) = rw (flag-back (d .own), found-back (d .index))
-
-amount-back : (o : Option ℕ) → amountFrom (wordsIn (countWords o) 0) (wordsIn (countWords o) 1) ≡ amountOf o
-amount-back none = refl
-amount-back (some n) = refl
 
 -- ---- what stands past the end is zeros
 no-id : idWords noName ≡ replicate 3 0

@@ -1,23 +1,24 @@
--- What stands in a region past its last record, and when a record fits. Assumes nothing.
+-- What stands in a region past its last record. Assumes nothing.
 use Prim.Native.Nat.{ℕ, _+_, _-_, _*_, _≤_, _<_}
 use native.Mathlib.Omega.{arith}
 use native.Mathlib.Nat.{mul-le-mul-right}
-use mathlib.Core.Path.{_≡_, refl, sym, ap, _∙_}
-use mathlib.Core.Bool.{Bool, true, false, _&&_, false≢true}
+use mathlib.Core.Path.{_≡_, sym, ap, _∙_}
+use mathlib.Core.Bool.{false}
 use mathlib.Core.Logic.{inl, inr}
 use mathlib.Core.List.{List, []}
 use lib.ListN.{length, getD, replicate, take, length-take, List·getD-eq-default, getD-replicate}
 use lib.Seq.{getD-append-add}
-use lib.Dec.{leb, ltb}
+use lib.Dec.{ltb}
 use lib.Ieee.{Float}
-use borrow.Author.Tests.{le-leb, leb-true, ltb-true, ltb-false}
+use borrow.Author.Tests.{le-leb, ltb-false}
 use Rattle.decimals.proofs.Whole.{le-or-lt}
 use Rattle.scope.specs.Records.{Network}
 use Rattle.scope.specs.Tables.{flat, region, blocks, recordWords, roomNumbers}
 use Rattle.tables.proofs.RegionLaws.{flat-length, region-length}
 use Rattle.tables.proofs.BlockLaws.{sum, get-in, Lies, get-word}
 use Rattle.tables.proofs.EmptyLaws.{words-long, numbers-long}
-use Rattle.stored.specs.Back.{Stands, hasRoom, haveRoom}
+use Rattle.codes.specs.Codes.{hasRoom, haveRoom}
+use Rattle.stored.specs.Back.{Stands}
 
 -- ---- past the last record
 region-past : {A R : Type 0} (enc : R → List A) (z : A) (n : ℕ) (rs : List R) (off : ℕ) (d : A) → length (flat enc rs) ≤ off → off < n → getD (region enc z n rs) off d ≡ z
@@ -44,24 +45,6 @@ module _ {A R : Type 0} {enc : R → List A} {z : A} {bs : List (List A)} {b n b
         | inl past ↦ past-word i j d past (omega arith) ∙ sym (rw (List·getD-eq-default rs r0 past, zeros) (getD-replicate k j z d hj))
         | inr hi ↦ get-word g exact i j d r0 hi hj
       ]
-
--- ---- whether a record fits
-both : (s t : Bool) → (s && t) ≡ true → (s ≡ true) × (t ≡ true)
-both true t e = (refl, e)
-both false t e = absurd (false≢true e)
-
--- the record stands in the tables
-module _ (words room i : ℕ) where
-  pub room-is : hasRoom words room i ≡ true → (i < room) × (recordWords ≤ words)
-  room-is e =
-      let h = both (leb recordWords words) (ltb i room) e in
-      (ltb-true i room (h .1), leb-true recordWords words (h .0))
-
-  pub rooms-are : (numbers : ℕ) → haveRoom words numbers room i ≡ true → (i < room) × (recordWords ≤ words) × (roomNumbers ≤ numbers)
-  rooms-are numbers e =
-      let h = both (leb roomNumbers numbers) (hasRoom words room i) e in
-      let k = room-is (h .1) in
-      (k .0, k .1, leb-true roomNumbers numbers (h .0))
 
 as-long : {A : Type 0} (n : ℕ) (l : List A) → length (take n l) ≡ n → n ≤ length l
 as-long n l e = omega (arith, e, length-take n l)

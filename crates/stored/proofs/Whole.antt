@@ -11,7 +11,8 @@ use Rattle.stored.specs.declared.Point as pointOut
 use Rattle.stored.specs.declared.Multiplier as multiplierOut
 use Rattle.stored.specs.declared.Demand as demandOut
 use Rattle.stored.specs.declared.Rule as ruleOut
-use Rattle.stored.specs.Back.{spanFrom, fieldFrom, foundFrom, amountFrom, kindBy, linkKindBy}
+use Rattle.codes.specs.Codes.{spanFrom, fieldFrom, foundFrom, amountFrom}
+use Rattle.stored.specs.Back.{kindBy, linkKindBy}
 
 abbrev pub nodeBy : (ℕ → ℕ) → (ℕ → Float) → nodeOut.Node
 nodeBy a b = record { id = spanFrom (a 0) (a 1); kind = kindBy a b; placed = eqb (a 7) 1; x = b 6; y = b 7 }

@@ -1,44 +1,21 @@
 -- A record read back from the tables: what the code has for each record of the network. Assumes nothing.
-use Prim.Native.Nat.{ℕ, _+_, _-_}
-use mathlib.Core.Bool.{Bool, true, false, cond, _&&_}
+use Prim.Native.Nat.{ℕ, _+_}
+use mathlib.Core.Bool.{true, false, cond}
 use mathlib.Core.List.{List}
 use mathlib.Core.Option.{Option, none, some}
-use lib.ListN.{length, getD, take}
-use lib.Dec.{eqb, ltb, leb}
+use lib.ListN.{getD, take}
+use lib.Dec.{eqb}
 use lib.Ieee.{Float, nan}
 use Rattle.fields.specs.Fields.{Name}
-use Rattle.fields.specs.declared.Span.{Span}
-use Rattle.fields.specs.declared.Field.{Field}
-use Rattle.fields.specs.declared.Field.the-variants.{Taken, Nothing}
 use Rattle.scope.specs.Records as R
 use Rattle.scope.specs.Records.{Network, zeroF, noName, junction, reservoir, tank, pipe, pump, valve, condition, action}
 use Rattle.scope.specs.Tables.{recordWords, roomNumbers}
-use Rattle.scope.specs.declared.Found.{Found}
-use Rattle.scope.specs.declared.Found.the-variants.{At, Nowhere}
-use Rattle.scope.specs.declared.PipeStatus.{PipeStatus}
-use Rattle.scope.specs.declared.PipeStatus.the-variants as pipeIs
-use Rattle.scope.specs.declared.LinkStatus.{LinkStatus}
-use Rattle.scope.specs.declared.LinkStatus.the-variants.{Open, Closed, Active}
-use Rattle.scope.specs.declared.ValveType.{ValveType}
-use Rattle.scope.specs.declared.ValveType.the-variants.{Gpv, Tcv, Fcv, Prv, Psv, Pbv, Pcv}
-use Rattle.scope.specs.declared.Target.{Target}
-use Rattle.scope.specs.declared.Target.the-variants as target
-use Rattle.scope.specs.declared.SystemAttribute.the-variants as system
-use Rattle.scope.specs.declared.NodeAttribute.the-variants as node
-use Rattle.scope.specs.declared.TankAttribute.the-variants as tankHas
-use Rattle.scope.specs.declared.LinkAttribute.the-variants as link
-use Rattle.scope.specs.declared.Comparison.{Comparison}
-use Rattle.scope.specs.declared.Comparison.the-variants.{Equal, Differs, Above, Below, AtLeast, AtMost}
-use Rattle.scope.specs.declared.Operator.{Operator}
-use Rattle.scope.specs.declared.Operator.the-variants.{And, Or}
-use Rattle.scope.specs.declared.Value.{Value}
-use Rattle.scope.specs.declared.Value.the-variants.{Number, Status}
+use Rattle.scope.specs.declared.Value.the-variants.{Number}
 use Rattle.scope.specs.declared.Tank as tankOut
 use Rattle.scope.specs.declared.Condition as conditionOut
 use Rattle.scope.specs.declared.Action as actionOut
 use Rattle.tables.specs.Holding.{Words, Numbers}
-use Rattle.stored.specs.declared.Amount.{Amount}
-use Rattle.stored.specs.declared.Amount.the-variants.{Set, Unset}
+use Rattle.codes.specs.Codes.{spanFrom, fieldFrom, foundFrom, pipeStatusFrom, typeFrom, targetFrom, comparisonFrom, operatorFrom, valueFrom, nameSpan, nameField, placeFound, amountOf}
 use Rattle.stored.specs.declared.Junction as junctionOut
 use Rattle.stored.specs.declared.Reservoir as reservoirOut
 use Rattle.stored.specs.declared.NodeKind as kindOut
@@ -65,13 +42,6 @@ pub record Stands (m : Network) (w : List ℕ) (f : List Float) : Type 0 where
   pub words : Words text m (take recordWords w)
   pub numbers : Numbers m (take roomNumbers f)
 
--- the tables are long enough for a network, and a region has room for a record i
-abbrev pub hasRoom : ℕ → ℕ → ℕ → Bool
-hasRoom words room i = leb recordWords words && ltb i room
-
-abbrev pub haveRoom : ℕ → ℕ → ℕ → ℕ → Bool
-haveRoom words numbers room i = leb roomNumbers numbers && hasRoom words room i
-
 -- what stands past the end of a list
 abbrev pub noPoint : R.Point
 noPoint = record { curve = 0; x = zeroF; y = zeroF }
@@ -81,57 +51,6 @@ noMultiplier = record { pattern = 0; value = zeroF }
 
 abbrev pub noClause : R.Clause
 noClause = action (record { link = 0; name = noName; value = Number zeroF; otherwise = false })
-
--- ---- names and small values, by their words
--- a span by its place and its length; one that would end beyond every place is empty
-abbrev pub spanFrom : ℕ → ℕ → Span
-spanFrom at long = cond (ltb (18446744073709551615 - at) long) (record { at = at; end = at }) (record { at = at; end = at + long })
-
-abbrev pub fieldFrom : ℕ → ℕ → Field
-fieldFrom at long = cond (eqb long 0) Nothing (Taken (spanFrom at long))
-
-abbrev pub foundFrom : ℕ → Found
-foundFrom n = cond (eqb n 0) Nowhere (At (n - 1))
-
-abbrev pub amountFrom : ℕ → ℕ → Amount
-amountFrom n x = cond (eqb n 0) Unset (Set x)
-
-abbrev pub pipeStatusFrom : ℕ → PipeStatus
-pipeStatusFrom n = cond (eqb n 2) pipeIs.Closed (cond (eqb n 3) pipeIs.CheckValve pipeIs.Open)
-
-abbrev pub statusFrom : ℕ → LinkStatus
-statusFrom n = cond (eqb n 1) Open (cond (eqb n 2) Closed Active)
-
-abbrev pub typeFrom : ℕ → ValveType
-typeFrom n = cond (eqb n 1) Gpv (cond (eqb n 2) Tcv (cond (eqb n 3) Fcv (cond (eqb n 4) Prv (cond (eqb n 5) Psv (cond (eqb n 6) Pbv Pcv)))))
-
-abbrev pub systemOrNode : ℕ → Target
-systemOrNode n =
-    cond (eqb n 1) (target.System system.Demand)
-    (cond (eqb n 2) (target.System system.Time)
-    (cond (eqb n 3) (target.System system.ClockTime)
-    (cond (eqb n 4) (target.Node node.Demand)
-    (cond (eqb n 5) (target.Node node.Head) (target.Node node.Pressure)))))
-
-abbrev pub tankOrLink : ℕ → Target
-tankOrLink n =
-    cond (eqb n 7) (target.Tank tankHas.Level)
-    (cond (eqb n 8) (target.Tank tankHas.FillTime)
-    (cond (eqb n 9) (target.Tank tankHas.DrainTime)
-    (cond (eqb n 10) (target.Link link.Flow)
-    (cond (eqb n 11) (target.Link link.Status) (target.Link link.Setting)))))
-
-abbrev pub targetFrom : ℕ → Target
-targetFrom n = cond (ltb n 7) (systemOrNode n) (tankOrLink n)
-
-abbrev pub comparisonFrom : ℕ → Comparison
-comparisonFrom n = cond (eqb n 1) Equal (cond (eqb n 2) Differs (cond (eqb n 3) Above (cond (eqb n 4) Below (cond (eqb n 5) AtLeast AtMost))))
-
-abbrev pub operatorFrom : ℕ → Operator
-operatorFrom n = cond (eqb n 1) And Or
-
-abbrev pub valueFrom : ℕ → Float → Value
-valueFrom n x = cond (eqb n 0) (Number x) (Status (statusFrom n))
 
 -- ---- a record by its words a and its numbers b, each by its place in the record
 abbrev pub wordsFrom : List ℕ → ℕ → ℕ → ℕ
@@ -174,21 +93,6 @@ abbrev pub clauseBy : (ℕ → ℕ) → Float → clauseOut.Clause
 clauseBy a x = cond (eqb (a 0) 1) (clauseIs.Condition (conditionBy a x)) (clauseIs.Action (actionBy a x))
 
 -- ---- a record of the network, as the code has it
-abbrev pub nameSpan : Name → Span
-nameSpan n = spanFrom (n .at) (length (n .letters))
-
-abbrev pub nameField : Option Name → Field
-nameField none = Nothing
-nameField (some n) = fieldFrom (n .at) (length (n .letters))
-
-abbrev pub placeFound : Option ℕ → Found
-placeFound none = Nowhere
-placeFound (some i) = At i
-
-abbrev pub amountOf : Option ℕ → Amount
-amountOf none = Unset
-amountOf (some n) = Set n
-
 abbrev pub kindBack : R.NodeKind → kindOut.NodeKind
 kindBack (junction j) = nodeIs.Junction (record { elevation = j .elevation; emitter = j .emitter; disabled = j .disabled })
 kindBack (reservoir r) = nodeIs.Reservoir (record { elevation = r .elevation; pattern = nameField (r .pattern); index = placeFound (r .index) })

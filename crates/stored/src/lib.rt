@@ -9,35 +9,23 @@ ghost use Rattle.scope.specs.Records.{Network, noName, noNode, countsOf};
 ghost use Rattle.scope.specs.Rules.{noLink};
 ghost use Rattle.scope.specs.Tables.{recordWords, tallyWords};
 ghost use Rattle.tables.specs.Holding.{noDemand, noRule};
-ghost use Rattle.stored.specs.Back.{Stands, hasRoom, haveRoom, wordsFrom, numbersFrom, noPoint, noMultiplier, noClause, spanFrom, fieldFrom, foundFrom, amountFrom, pipeStatusFrom, statusFrom, typeFrom, systemOrNode, tankOrLink, targetFrom, comparisonFrom, operatorFrom, valueFrom, junctionBy, reservoirBy, tankBy, kindBy, pipeBy, pumpBy, valveBy, linkKindBy, conditionBy, actionBy, clauseBy, amountOf, nodeBack, linkBack, curveBack, patternBack, pointBack, multiplierBack, demandBack, ruleBack, clauseBack};
+ghost use Rattle.codes.specs.Codes.{spanFrom, fieldFrom, amountOf};
+ghost use Rattle.stored.specs.Back.{Stands, wordsFrom, numbersFrom, noPoint, noMultiplier, noClause, junctionBy, reservoirBy, tankBy, kindBy, pipeBy, pumpBy, valveBy, linkKindBy, conditionBy, actionBy, clauseBy, nodeBack, linkBack, curveBack, patternBack, pointBack, multiplierBack, demandBack, ruleBack, clauseBack};
+use codes::Amount;
 use fields::Field;
 use fields::Span;
 use scope::Action;
-use scope::Comparison;
 use scope::Condition;
 use scope::Counts;
 use scope::Found;
-use scope::LinkAttribute;
-use scope::LinkStatus;
-use scope::NodeAttribute;
-use scope::Operator;
 use scope::PipeStatus;
-use scope::SystemAttribute;
 use scope::Tank;
-use scope::TankAttribute;
-use scope::Target;
 use scope::Value;
 use scope::ValveType;
 
 const ROOM_WORDS: usize = 14421;
 
 // ---- what the records are
-
-// A number that may be unset.
-pub enum Amount {
-    Set(u64),
-    Unset,
-}
 
 pub struct Junction {
     pub elevation: f64,
@@ -146,211 +134,20 @@ pub enum Clause {
     Action(Action),
 }
 
-// ---- small values by their words
-
-// A span by its place and its length; one that would end beyond every place is empty.
-fn span_from(at: usize, long: usize) -> Span
-    ensures { λ r. ⌜ r ≡ spanFrom at long ⌝ }
-{
-    if 18446744073709551615 - at < long {
-        return Span { at, end: at };
-    }
-    Span { at, end: at + long }
-}
+// ---- names by their words
 
 fn span_at(words: &[u64], at: usize) -> Span
     requires { ⌜ at + 1 < length (now words) ⌝ }
     ensures { λ r. ⌜ r ≡ spanFrom (getD (now (words .entry)) at 0) (getD (now (words .entry)) (at + 1) 0) ⌝ }
 {
-    span_from(words[at] as usize, words[at + 1] as usize)
+    codes::span_from(words[at] as usize, words[at + 1] as usize)
 }
 
 fn field_at(words: &[u64], at: usize) -> Field
     requires { ⌜ at + 1 < length (now words) ⌝ }
     ensures { λ r. ⌜ r ≡ fieldFrom (getD (now (words .entry)) at 0) (getD (now (words .entry)) (at + 1) 0) ⌝ }
 {
-    if words[at + 1] == 0 {
-        return Field::Nothing;
-    }
-    Field::Taken(span_at(words, at))
-}
-
-fn found_from(n: u64) -> Found
-    ensures { λ r. ⌜ r ≡ foundFrom n ⌝ }
-{
-    if n == 0 {
-        return Found::Nowhere;
-    }
-    Found::At((n - 1) as usize)
-}
-
-fn amount_from(n: u64, x: u64) -> Amount
-    ensures { λ r. ⌜ r ≡ amountFrom n x ⌝ }
-{
-    if n == 0 {
-        return Amount::Unset;
-    }
-    Amount::Set(x)
-}
-
-fn pipe_status_from(n: u64) -> PipeStatus
-    ensures { λ r. ⌜ r ≡ pipeStatusFrom n ⌝ }
-{
-    if n == 2 {
-        return PipeStatus::Closed;
-    }
-    if n == 3 {
-        return PipeStatus::CheckValve;
-    }
-    PipeStatus::Open
-}
-
-fn status_from(n: u64) -> LinkStatus
-    ensures { λ r. ⌜ r ≡ statusFrom n ⌝ }
-{
-    if n == 1 {
-        return LinkStatus::Open;
-    }
-    if n == 2 {
-        return LinkStatus::Closed;
-    }
-    LinkStatus::Active
-}
-
-fn valve_type_from(n: u64) -> ValveType
-    ensures { λ r. ⌜ r ≡ typeFrom n ⌝ }
-{
-    if n == 1 {
-        return ValveType::Gpv;
-    }
-    if n == 2 {
-        return ValveType::Tcv;
-    }
-    if n == 3 {
-        return ValveType::Fcv;
-    }
-    if n == 4 {
-        return ValveType::Prv;
-    }
-    if n == 5 {
-        return ValveType::Psv;
-    }
-    if n == 6 {
-        return ValveType::Pbv;
-    }
-    ValveType::Pcv
-}
-
-fn system_or_node(n: u64) -> Target
-    ensures { λ r. ⌜ r ≡ systemOrNode n ⌝ }
-{
-    if n == 1 {
-        return Target::System(SystemAttribute::Demand);
-    }
-    if n == 2 {
-        return Target::System(SystemAttribute::Time);
-    }
-    if n == 3 {
-        return Target::System(SystemAttribute::ClockTime);
-    }
-    if n == 4 {
-        return Target::Node(NodeAttribute::Demand);
-    }
-    if n == 5 {
-        return Target::Node(NodeAttribute::Head);
-    }
-    Target::Node(NodeAttribute::Pressure)
-}
-
-fn tank_or_link(n: u64) -> Target
-    ensures { λ r. ⌜ r ≡ tankOrLink n ⌝ }
-{
-    if n == 7 {
-        return Target::Tank(TankAttribute::Level);
-    }
-    if n == 8 {
-        return Target::Tank(TankAttribute::FillTime);
-    }
-    if n == 9 {
-        return Target::Tank(TankAttribute::DrainTime);
-    }
-    if n == 10 {
-        return Target::Link(LinkAttribute::Flow);
-    }
-    if n == 11 {
-        return Target::Link(LinkAttribute::Status);
-    }
-    Target::Link(LinkAttribute::Setting)
-}
-
-fn target_from(n: u64) -> Target
-    ensures { λ r. ⌜ r ≡ targetFrom n ⌝ }
-{
-    if n < 7 {
-        return system_or_node(n);
-    }
-    tank_or_link(n)
-}
-
-fn comparison_from(n: u64) -> Comparison
-    ensures { λ r. ⌜ r ≡ comparisonFrom n ⌝ }
-{
-    if n == 1 {
-        return Comparison::Equal;
-    }
-    if n == 2 {
-        return Comparison::Differs;
-    }
-    if n == 3 {
-        return Comparison::Above;
-    }
-    if n == 4 {
-        return Comparison::Below;
-    }
-    if n == 5 {
-        return Comparison::AtLeast;
-    }
-    Comparison::AtMost
-}
-
-fn operator_from(n: u64) -> Operator
-    ensures { λ r. ⌜ r ≡ operatorFrom n ⌝ }
-{
-    if n == 1 {
-        return Operator::And;
-    }
-    Operator::Or
-}
-
-fn value_from(n: u64, x: f64) -> Value
-    ensures { λ r. ⌜ r ≡ valueFrom n x ⌝ }
-{
-    if n == 0 {
-        return Value::Number(x);
-    }
-    Value::Status(status_from(n))
-}
-
-// ---- whether a record can stand there
-
-// The words are long enough for a network, and a region has room for a record i.
-fn has_room(words: &[u64], room: usize, i: usize) -> bool
-    ensures { λ r. ⌜ r ≡ hasRoom (length (now (words .entry))) room i ⌝ }
-{
-    if tables::RECORD_WORDS <= words.len() {
-        return i < room;
-    }
-    false
-}
-
-// And the numbers are long enough.
-fn have_room(words: &[u64], numbers: &[f64], room: usize, i: usize) -> bool
-    ensures { λ r. ⌜ r ≡ haveRoom (length (now (words .entry))) (length (now (numbers .entry))) room i ⌝ }
-{
-    if tables::NUMBERS <= numbers.len() {
-        return has_room(words, room, i);
-    }
-    false
+    codes::field_from(words[at] as usize, words[at + 1] as usize)
 }
 
 // ---- nodes
@@ -371,7 +168,7 @@ fn reservoir_at(words: &[u64], numbers: &[f64], a: usize, b: usize) -> Reservoir
     ensures { λ r. ⌜ r ≡ reservoirBy (wordsFrom (now (words .entry)) a) (numbersFrom (now (numbers .entry)) b) ⌝ }
 {
     let pattern = field_at(words, a + 4);
-    let index = found_from(words[a + 6]);
+    let index = codes::found_from(words[a + 6]);
     Reservoir {
         elevation: numbers[b + 0],
         pattern,
@@ -430,7 +227,7 @@ fn node_row(words: &[u64], numbers: &[f64], i: usize) -> Node
 pub fn node_at(words: &[u64], numbers: &[f64], i: usize) -> Node
     ensures { λ r. ⌜ ((m : Network) → Stands m (now (words .entry)) (now (numbers .entry)) → r ≡ nodeBack (getD (m .nodes) i noNode)) ⌝ }
 {
-    if have_room(words, numbers, 256, i) {
+    if codes::have_room(words, numbers, 256, i) {
         return node_row(words, numbers, i);
     }
     Node {
@@ -452,7 +249,7 @@ fn pipe_at(words: &[u64], numbers: &[f64], a: usize, b: usize) -> Pipe
     requires { ⌜ (a + 9 ≤ length (now words)) × (b + 4 ≤ length (now numbers)) ⌝ }
     ensures { λ r. ⌜ r ≡ pipeBy (wordsFrom (now (words .entry)) a) (numbersFrom (now (numbers .entry)) b) ⌝ }
 {
-    let status = pipe_status_from(words[a + 6]);
+    let status = codes::pipe_status_from(words[a + 6]);
     Pipe {
         long: numbers[b + 0],
         diameter: numbers[b + 1],
@@ -478,7 +275,7 @@ fn valve_at(words: &[u64], numbers: &[f64], a: usize, b: usize) -> Valve
     requires { ⌜ (a + 9 ≤ length (now words)) × (b + 4 ≤ length (now numbers)) ⌝ }
     ensures { λ r. ⌜ r ≡ valveBy (wordsFrom (now (words .entry)) a) (numbersFrom (now (numbers .entry)) b) ⌝ }
 {
-    let sort = valve_type_from(words[a + 6]);
+    let sort = codes::valve_type_from(words[a + 6]);
     let curve = field_at(words, a + 7);
     Valve {
         setting: numbers[b + 0],
@@ -522,7 +319,7 @@ fn link_row(words: &[u64], numbers: &[f64], i: usize) -> Link
 pub fn link_at(words: &[u64], numbers: &[f64], i: usize) -> Link
     ensures { λ r. ⌜ ((m : Network) → Stands m (now (words .entry)) (now (numbers .entry)) → r ≡ linkBack (getD (m .links) i noLink)) ⌝ }
 {
-    if have_room(words, numbers, 256, i) {
+    if codes::have_room(words, numbers, 256, i) {
         return link_row(words, numbers, i);
     }
     Link {
@@ -553,7 +350,7 @@ fn curve_row(words: &[u64], i: usize) -> Curve
 pub fn curve_at(words: &[u64], i: usize) -> Curve
     ensures { λ r. ⌜ ((m : Network) (f : List Float) → Stands m (now (words .entry)) f → r ≡ curveBack (getD (m .curves) i noName)) ⌝ }
 {
-    if has_room(words, 64, i) {
+    if codes::has_room(words, 64, i) {
         return curve_row(words, i);
     }
     Curve {
@@ -573,7 +370,7 @@ fn pattern_row(words: &[u64], i: usize) -> Pattern
 pub fn pattern_at(words: &[u64], i: usize) -> Pattern
     ensures { λ r. ⌜ ((m : Network) (f : List Float) → Stands m (now (words .entry)) f → r ≡ patternBack (getD (m .patterns) i noName)) ⌝ }
 {
-    if has_room(words, 64, i) {
+    if codes::has_room(words, 64, i) {
         return pattern_row(words, i);
     }
     Pattern {
@@ -597,7 +394,7 @@ fn point_row(words: &[u64], numbers: &[f64], i: usize) -> Point
 pub fn point_at(words: &[u64], numbers: &[f64], i: usize) -> Point
     ensures { λ r. ⌜ ((m : Network) → Stands m (now (words .entry)) (now (numbers .entry)) → r ≡ pointBack (getD (m .points) i noPoint)) ⌝ }
 {
-    if have_room(words, numbers, 1024, i) {
+    if codes::have_room(words, numbers, 1024, i) {
         return point_row(words, numbers, i);
     }
     Point {
@@ -621,7 +418,7 @@ fn multiplier_row(words: &[u64], numbers: &[f64], i: usize) -> Multiplier
 pub fn multiplier_at(words: &[u64], numbers: &[f64], i: usize) -> Multiplier
     ensures { λ r. ⌜ ((m : Network) → Stands m (now (words .entry)) (now (numbers .entry)) → r ≡ multiplierBack (getD (m .multipliers) i noMultiplier)) ⌝ }
 {
-    if have_room(words, numbers, 2048, i) {
+    if codes::have_room(words, numbers, 2048, i) {
         return multiplier_row(words, numbers, i);
     }
     Multiplier {
@@ -636,7 +433,7 @@ fn demand_row(words: &[u64], numbers: &[f64], i: usize) -> Demand
 {
     let a = tables::DEMANDS + i * tables::DEMAND_WORDS;
     let pattern = field_at(words, a + 2);
-    let index = found_from(words[a + 4]);
+    let index = codes::found_from(words[a + 4]);
     Demand {
         node: words[a + 0] as usize,
         own: words[a + 1] == 1,
@@ -650,7 +447,7 @@ fn demand_row(words: &[u64], numbers: &[f64], i: usize) -> Demand
 pub fn demand_at(words: &[u64], numbers: &[f64], i: usize) -> Demand
     ensures { λ r. ⌜ ((m : Network) → Stands m (now (words .entry)) (now (numbers .entry)) → r ≡ demandBack (getD (m .demands) i noDemand)) ⌝ }
 {
-    if have_room(words, numbers, 512, i) {
+    if codes::have_room(words, numbers, 512, i) {
         return demand_row(words, numbers, i);
     }
     Demand {
@@ -667,14 +464,14 @@ fn time_row(words: &[u64], i: usize) -> Amount
     ensures { λ r. ⌜ ((m : Network) (f : List Float) → Stands m (now (words .entry)) f → r ≡ amountOf (getD (m .times) i none)) ⌝ }
 {
     let a = tables::TIMES + i * tables::TIME_WORDS;
-    amount_from(words[a + 0], words[a + 1])
+    codes::amount_from(words[a + 0], words[a + 1])
 }
 
 // Time number i: duration, hydraulic timestep, pattern timestep, report timestep, pattern start, start clocktime.
 pub fn time_at(words: &[u64], i: usize) -> Amount
     ensures { λ r. ⌜ ((m : Network) (f : List Float) → Stands m (now (words .entry)) f → r ≡ amountOf (getD (m .times) i none)) ⌝ }
 {
-    if has_room(words, 6, i) {
+    if codes::has_room(words, 6, i) {
         return time_row(words, i);
     }
     Amount::Unset
@@ -688,7 +485,7 @@ fn rule_row(words: &[u64], i: usize) -> Rule
 {
     let a = tables::RULES + i * tables::RULE_WORDS;
     let id = span_at(words, a);
-    let priority = amount_from(words[a + 5], words[a + 6]);
+    let priority = codes::amount_from(words[a + 5], words[a + 6]);
     Rule {
         id,
         first: words[a + 3] as usize,
@@ -701,7 +498,7 @@ fn rule_row(words: &[u64], i: usize) -> Rule
 pub fn rule_at(words: &[u64], i: usize) -> Rule
     ensures { λ r. ⌜ ((m : Network) (f : List Float) → Stands m (now (words .entry)) f → r ≡ ruleBack (getD (m .rules) i noRule)) ⌝ }
 {
-    if has_room(words, 64, i) {
+    if codes::has_room(words, 64, i) {
         return rule_row(words, i);
     }
     Rule {
@@ -716,10 +513,10 @@ fn condition_at(words: &[u64], a: usize, x: f64) -> Condition
     requires { ⌜ a + 7 ≤ length (now words) ⌝ }
     ensures { λ r. ⌜ r ≡ conditionBy (wordsFrom (now (words .entry)) a) x ⌝ }
 {
-    let operator = operator_from(words[a + 1]);
-    let target = target_from(words[a + 2]);
-    let comparison = comparison_from(words[a + 3]);
-    let value = value_from(words[a + 4], x);
+    let operator = codes::operator_from(words[a + 1]);
+    let target = codes::target_from(words[a + 2]);
+    let comparison = codes::comparison_from(words[a + 3]);
+    let value = codes::value_from(words[a + 4], x);
     let name = field_at(words, a + 5);
     Condition {
         operator,
@@ -734,7 +531,7 @@ fn action_at(words: &[u64], a: usize, x: f64) -> Action
     requires { ⌜ a + 7 ≤ length (now words) ⌝ }
     ensures { λ r. ⌜ r ≡ actionBy (wordsFrom (now (words .entry)) a) x ⌝ }
 {
-    let value = value_from(words[a + 4], x);
+    let value = codes::value_from(words[a + 4], x);
     let name = span_at(words, a + 5);
     Action {
         link: words[a + 2] as usize,
@@ -769,7 +566,7 @@ fn clause_row(words: &[u64], numbers: &[f64], i: usize) -> Clause
 pub fn clause_at(words: &[u64], numbers: &[f64], i: usize) -> Clause
     ensures { λ r. ⌜ ((m : Network) → Stands m (now (words .entry)) (now (numbers .entry)) → r ≡ clauseBack (getD (m .clauses) i noClause)) ⌝ }
 {
-    if have_room(words, numbers, 512, i) {
+    if codes::have_room(words, numbers, 512, i) {
         return clause_row(words, numbers, i);
     }
     Clause::Action(Action {

@@ -7,7 +7,7 @@ use Rattle.stored.proofs.action_at.Tie as tie
 use Rattle.stored.proofs.action_at.Reads as reads
 use Rattle.stored.proofs.action_at.Lts as lts
 use Rattle.stored.proofs.span_at.Reads as span-at-reads
-use Rattle.stored.proofs.value_from.Reads as value-from-reads
+use Rattle.codes.proofs.value_from.Reads as value-from-reads
 
 add-value-from : tie.Need-add-value-from
 add-value-from c = search needs

@@ -3,13 +3,14 @@ use mathlib.Core.Path.{sym, ap, _∙_}
 use lib.ListN.{length}
 use Rattle.tables.proofs.ClearLaws.{zero-number}
 use Rattle.stored.specs.Back.{noClause, clauseBack}
-use Rattle.stored.proofs.PastLaws.{rooms-are, past-both}
+use Rattle.codes.proofs.RoomLaws.{rooms-are}
+use Rattle.stored.proofs.PastLaws.{past-both}
 use borrow.Author.Needs.{needs}
 use Rattle.stored.proofs.clause_at.Statement.{statement}
 use Rattle.stored.proofs.clause_at.Tie as tie
 use Rattle.stored.proofs.clause_at.Reads as reads
 use Rattle.stored.proofs.clause_at.Lts as lts
-use Rattle.stored.proofs.have_room.Reads as have-room-reads
+use Rattle.codes.proofs.have_room.Reads as have-room-reads
 use Rattle.stored.proofs.clause_row.Reads as clause-row-reads
 
 have-room-requires : tie.Need-have-room-requires

@@ -6,11 +6,11 @@ use Rattle.stored.proofs.condition_at.Statement.{statement}
 use Rattle.stored.proofs.condition_at.Tie as tie
 use Rattle.stored.proofs.condition_at.Reads as reads
 use Rattle.stored.proofs.condition_at.Lts as lts
-use Rattle.stored.proofs.comparison_from.Reads as comparison-from-reads
+use Rattle.codes.proofs.comparison_from.Reads as comparison-from-reads
 use Rattle.stored.proofs.field_at.Reads as field-at-reads
-use Rattle.stored.proofs.operator_from.Reads as operator-from-reads
-use Rattle.stored.proofs.target_from.Reads as target-from-reads
-use Rattle.stored.proofs.value_from.Reads as value-from-reads
+use Rattle.codes.proofs.operator_from.Reads as operator-from-reads
+use Rattle.codes.proofs.target_from.Reads as target-from-reads
+use Rattle.codes.proofs.value_from.Reads as value-from-reads
 
 add-operator-from : tie.Need-add-operator-from
 add-operator-from c = search needs

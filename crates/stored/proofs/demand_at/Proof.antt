@@ -4,13 +4,14 @@ use lib.ListN.{length}
 use Rattle.tables.proofs.ClearLaws.{zero-number}
 use Rattle.tables.specs.Holding.{noDemand}
 use Rattle.stored.specs.Back.{demandBack}
-use Rattle.stored.proofs.PastLaws.{rooms-are, past-both}
+use Rattle.codes.proofs.RoomLaws.{rooms-are}
+use Rattle.stored.proofs.PastLaws.{past-both}
 use borrow.Author.Needs.{needs}
 use Rattle.stored.proofs.demand_at.Statement.{statement}
 use Rattle.stored.proofs.demand_at.Tie as tie
 use Rattle.stored.proofs.demand_at.Reads as reads
 use Rattle.stored.proofs.demand_at.Lts as lts
-use Rattle.stored.proofs.have_room.Reads as have-room-reads
+use Rattle.codes.proofs.have_room.Reads as have-room-reads
 use Rattle.stored.proofs.demand_row.Reads as demand-row-reads
 
 have-room-requires : tie.Need-have-room-requires

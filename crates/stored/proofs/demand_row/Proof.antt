@@ -8,7 +8,7 @@ use Rattle.stored.proofs.demand_row.Tie as tie
 use Rattle.stored.proofs.demand_row.Reads as reads
 use Rattle.stored.proofs.demand_row.Lts as lts
 use Rattle.stored.proofs.field_at.Reads as field-at-reads
-use Rattle.stored.proofs.found_from.Reads as found-from-reads
+use Rattle.codes.proofs.found_from.Reads as found-from-reads
 
 mul-a : tie.Need-mul-a
 mul-a c = search needs

@@ -4,13 +4,14 @@ use lib.ListN.{length}
 use Rattle.scope.specs.Rules.{noLink}
 use Rattle.tables.proofs.ClearLaws.{zero-number}
 use Rattle.stored.specs.Back.{linkBack}
-use Rattle.stored.proofs.PastLaws.{rooms-are, past-both}
+use Rattle.codes.proofs.RoomLaws.{rooms-are}
+use Rattle.stored.proofs.PastLaws.{past-both}
 use borrow.Author.Needs.{needs}
 use Rattle.stored.proofs.link_at.Statement.{statement}
 use Rattle.stored.proofs.link_at.Tie as tie
 use Rattle.stored.proofs.link_at.Reads as reads
 use Rattle.stored.proofs.link_at.Lts as lts
-use Rattle.stored.proofs.have_room.Reads as have-room-reads
+use Rattle.codes.proofs.have_room.Reads as have-room-reads
 use Rattle.stored.proofs.link_row.Reads as link-row-reads
 
 have-room-requires : tie.Need-have-room-requires

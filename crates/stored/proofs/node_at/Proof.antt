@@ -4,13 +4,14 @@ use lib.ListN.{length}
 use Rattle.scope.specs.Records.{noNode}
 use Rattle.tables.proofs.ClearLaws.{zero-number}
 use Rattle.stored.specs.Back.{nodeBack}
-use Rattle.stored.proofs.PastLaws.{rooms-are, past-both}
+use Rattle.codes.proofs.RoomLaws.{rooms-are}
+use Rattle.stored.proofs.PastLaws.{past-both}
 use borrow.Author.Needs.{needs}
 use Rattle.stored.proofs.node_at.Statement.{statement}
 use Rattle.stored.proofs.node_at.Tie as tie
 use Rattle.stored.proofs.node_at.Reads as reads
 use Rattle.stored.proofs.node_at.Lts as lts
-use Rattle.stored.proofs.have_room.Reads as have-room-reads
+use Rattle.codes.proofs.have_room.Reads as have-room-reads
 use Rattle.stored.proofs.node_row.Reads as node-row-reads
 
 have-room-requires : tie.Need-have-room-requires

@@ -3,7 +3,7 @@ use Rattle.stored.proofs.pipe_at.Statement.{statement}
 use Rattle.stored.proofs.pipe_at.Tie as tie
 use Rattle.stored.proofs.pipe_at.Reads as reads
 use Rattle.stored.proofs.pipe_at.Lts as lts
-use Rattle.stored.proofs.pipe_status_from.Reads as pipe-status-from-reads
+use Rattle.codes.proofs.pipe_status_from.Reads as pipe-status-from-reads
 
 add-pipe-status-from : tie.Need-add-pipe-status-from
 add-pipe-status-from c = search needs

@@ -7,7 +7,7 @@ use Rattle.stored.proofs.reservoir_at.Tie as tie
 use Rattle.stored.proofs.reservoir_at.Reads as reads
 use Rattle.stored.proofs.reservoir_at.Lts as lts
 use Rattle.stored.proofs.field_at.Reads as field-at-reads
-use Rattle.stored.proofs.found_from.Reads as found-from-reads
+use Rattle.codes.proofs.found_from.Reads as found-from-reads
 
 add-field-at : tie.Need-add-field-at
 add-field-at c = search needs

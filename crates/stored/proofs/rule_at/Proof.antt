@@ -3,13 +3,14 @@ use mathlib.Core.Path.{sym, ap, _∙_}
 use lib.ListN.{length}
 use Rattle.tables.specs.Holding.{noRule}
 use Rattle.stored.specs.Back.{ruleBack}
-use Rattle.stored.proofs.PastLaws.{room-is, past-words}
+use Rattle.codes.proofs.RoomLaws.{room-is}
+use Rattle.stored.proofs.PastLaws.{past-words}
 use borrow.Author.Needs.{needs}
 use Rattle.stored.proofs.rule_at.Statement.{statement}
 use Rattle.stored.proofs.rule_at.Tie as tie
 use Rattle.stored.proofs.rule_at.Reads as reads
 use Rattle.stored.proofs.rule_at.Lts as lts
-use Rattle.stored.proofs.has_room.Reads as has-room-reads
+use Rattle.codes.proofs.has_room.Reads as has-room-reads
 use Rattle.stored.proofs.rule_row.Reads as rule-row-reads
 
 has-room-requires : tie.Need-has-room-requires

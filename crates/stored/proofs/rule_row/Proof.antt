@@ -7,7 +7,7 @@ use Rattle.stored.proofs.rule_row.Statement.{statement}
 use Rattle.stored.proofs.rule_row.Tie as tie
 use Rattle.stored.proofs.rule_row.Reads as reads
 use Rattle.stored.proofs.rule_row.Lts as lts
-use Rattle.stored.proofs.amount_from.Reads as amount-from-reads
+use Rattle.codes.proofs.amount_from.Reads as amount-from-reads
 use Rattle.stored.proofs.span_at.Reads as span-at-reads
 
 mul-a : tie.Need-mul-a

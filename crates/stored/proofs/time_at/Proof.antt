@@ -3,14 +3,15 @@ use mathlib.Core.Path.{sym, ap, _∙_}
 use lib.ListN.{length}
 use native.Mathlib.Omega.{arith}
 use mathlib.Core.Option.{none}
-use Rattle.stored.specs.Back.{amountOf}
-use Rattle.stored.proofs.PastLaws.{room-is, past-words}
+use Rattle.codes.specs.Codes.{amountOf}
+use Rattle.codes.proofs.RoomLaws.{room-is}
+use Rattle.stored.proofs.PastLaws.{past-words}
 use borrow.Author.Needs.{needs}
 use Rattle.stored.proofs.time_at.Statement.{statement}
 use Rattle.stored.proofs.time_at.Tie as tie
 use Rattle.stored.proofs.time_at.Reads as reads
 use Rattle.stored.proofs.time_at.Lts as lts
-use Rattle.stored.proofs.has_room.Reads as has-room-reads
+use Rattle.codes.proofs.has_room.Reads as has-room-reads
 use Rattle.stored.proofs.time_row.Reads as time-row-reads
 
 has-room-requires : tie.Need-has-room-requires

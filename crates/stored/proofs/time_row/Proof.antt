@@ -5,7 +5,7 @@ use Rattle.stored.proofs.time_row.Statement.{statement}
 use Rattle.stored.proofs.time_row.Tie as tie
 use Rattle.stored.proofs.time_row.Reads as reads
 use Rattle.stored.proofs.time_row.Lts as lts
-use Rattle.stored.proofs.amount_from.Reads as amount-from-reads
+use Rattle.codes.proofs.amount_from.Reads as amount-from-reads
 
 mul-a : tie.Need-mul-a
 mul-a c = search needs

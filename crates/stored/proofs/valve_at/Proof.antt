@@ -7,7 +7,7 @@ use Rattle.stored.proofs.valve_at.Tie as tie
 use Rattle.stored.proofs.valve_at.Reads as reads
 use Rattle.stored.proofs.valve_at.Lts as lts
 use Rattle.stored.proofs.field_at.Reads as field-at-reads
-use Rattle.stored.proofs.valve_type_from.Reads as valve-type-from-reads
+use Rattle.codes.proofs.valve_type_from.Reads as valve-type-from-reads
 
 add-valve-type-from : tie.Need-add-valve-type-from
 add-valve-type-from c = search needs

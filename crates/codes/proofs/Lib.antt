@@ -1,0 +1,3 @@
+-- What the proofs of the records read back use.
+pub mod CodeLaws
+pub mod RoomLaws

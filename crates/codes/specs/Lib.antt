@@ -1,0 +1,2 @@
+-- What the contracts of this crate, and of the records read back, cite.
+pub mod Codes
