@@ -1,6 +1,7 @@
 -- A junction's own demand, looked for; and what storing a demand makes of the network. Assumes nothing.
-use Prim.Native.Nat.{ℕ, suc, _+_, _-_, _*_, _≤_, _<_}
+use Prim.Native.Nat.{ℕ, zero, suc, _+_, _-_, _*_, _≤_, _<_}
 use native.Mathlib.Omega.{arith}
+use native.Mathlib.Nat.{add-zero}
 use native.Mathlib.Numerals.{add-one}
 use borrow.Author.Tests.{lt-ltb, le-ltb, eq-eqb, ne-eqb}
 use mathlib.Core.Path.{_≡_, refl, sym, ap, _∙_}
@@ -31,7 +32,7 @@ use Rattle.tables.specs.declared.Kept.the-variants.{Stored, Refused}
 use Rattle.tables.proofs.HoldLaws.{sits-field, add-demand, change-demand, same-count-demands, count-demands}
 use Rattle.tables.proofs.LookLaws.{found-below}
 use Rattle.tables.proofs.ReadLaws.{demand-word, node-count}
-use Rattle.series.specs.Storing.{isOwn}
+use Rattle.series.specs.Storing.{isOwn, OfOthers}
 
 -- ---- one demand
 own-flag : (b : Bool) → eqb (flag b) 1 ≡ b
@@ -66,6 +67,50 @@ module _ (ds : List Demand) (k node : ℕ) where
   unfolding ownFrom
   own-end h = rw (drop-of-length-le ds {i = k} h)
 
+-- ---- the walk to the next demand of a node
+abbrev pub Passed : List ℕ → ℕ → ℕ → ℕ → ℕ → Type 0
+Passed w node from demands k = (from ≤ k) × (k ≤ demands) × OfOthers w node from k
+
+module _ (w : List ℕ) (node from demands : ℕ) where
+  pub none-passed : from ≤ demands → Passed w node from demands from
+  none-passed h = (omega arith, h, λ j a b e. omega arith)
+
+  pass-row : (k at r : ℕ) → Passed w node from demands k → k < demands → at ≡ demandsAt + k * demandSize → (getD w at 0 ≡ node → ⊥) → r ≡ k + 1 → Passed w node from demands r
+  pass-row k at r g h q n e = (
+    omega (arith, g .0),
+    omega arith,
+    λ j a b v.
+        let before : j < k → ⊥ = λ l. g .2 j a l v in
+        let here : j ≡ k → ⊥ = λ z. n (ap (λ (x : ℕ). getD w x 0) (rw (q, z)) ∙ v) in
+        omega (arith, before, here),
+  )
+
+  module _ (k : ℕ) (g : Passed w node from demands k) (room : k + 4 ≤ demands) (n0 : getD w (demandsAt + k * demandSize) 0 ≡ node → ⊥) where
+    pub one-passed : Passed w node from demands (k + 1)
+    one-passed = pass-row k (demandsAt + k * demandSize) (k + 1) g (omega arith) refl n0 refl
+
+    module _ (n1 : getD w (demandsAt + k * demandSize + demandSize) 0 ≡ node → ⊥) where
+      pub two-passed : Passed w node from demands (k + 2)
+      two-passed = pass-row (k + 1) (demandsAt + k * demandSize + demandSize) (k + 2) one-passed (omega arith) (omega arith) n1 (omega arith)
+
+      module _ (n2 : getD w (demandsAt + k * demandSize + 2 * demandSize) 0 ≡ node → ⊥) where
+        pub three-passed : Passed w node from demands (k + 3)
+        three-passed = pass-row (k + 2) (demandsAt + k * demandSize + 2 * demandSize) (k + 3) two-passed (omega arith) (omega arith) n2 (omega arith)
+
+        pub four-passed : (getD w (demandsAt + k * demandSize + 3 * demandSize) 0 ≡ node → ⊥) → Passed w node from demands (k + 4)
+        four-passed n3 = pass-row (k + 3) (demandsAt + k * demandSize + 3 * demandSize) (k + 4) three-passed (omega arith) (omega arith) n3 (omega arith)
+
+-- demands of other nodes are none of the node's own
+own-past : {text : List ℕ} {m : Network} {w : List ℕ} → Words text m w → (node a n : ℕ) → a + n ≤ length (m .demands) → OfOthers w node a (a + n)
+    → ownFrom a node (drop a (m .demands)) ≡ ownFrom (a + n) node (drop (a + n) (m .demands))
+own-past hw node a zero h o = rw add-zero
+own-past {text} {m} hw node a (suc n) h o =
+    let hn : a + n < length (m .demands) = omega arith in
+    let q : a + n + 1 ≡ a + suc n = omega arith in
+    own-past hw node a n (omega arith) (λ j p b. o j p (omega arith))
+    ∙ own-on (m .demands) (a + n) node hn (sym (other-node hw (a + n) node hn (o (a + n) (omega arith) (omega arith))))
+    ∙ ap (λ (x : ℕ). ownFrom x node (drop x (m .demands))) q
+
 pub record Searched (w : List ℕ) (demands node k : ℕ) : Type 0 where
   pub upto : k ≤ demands
   pub left : (text : List ℕ) (m : Network) → Words text m w → demands ≡ length (m .demands) → ownFrom 0 node (m .demands) ≡ ownFrom k node (drop k (m .demands))
@@ -75,6 +120,14 @@ module _ (w : List ℕ) (demands node : ℕ) where
   start-search = record { upto = omega arith; left = λ text m hw e. refl }
 
   module _ {k : ℕ} (g : Searched w demands node k) where
+    pub past-search : (r : ℕ) → Passed w node k demands r → Searched w demands node r
+    past-search r p = record {
+      upto = p .1;
+      left = λ text m hw e.
+          let q : k + (r - k) ≡ r = omega (arith, p .0) in
+          g .left text m hw e ∙ rw q at (own-past hw node k (r - k) (omega (arith, p .1)) (rw q (p .2)));
+    }
+
     pub next-search : k < demands → ((text : List ℕ) (m : Network) → Words text m w → k < length (m .demands) → false ≡ isOwn (getD (m .demands) k noDemand) node) → Searched w demands node (k + 1)
     next-search h n = record {
       upto = omega arith;
