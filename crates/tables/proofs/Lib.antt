@@ -7,4 +7,5 @@ pub mod EmptyLaws
 pub mod ReadLaws
 pub mod ClearLaws
 pub mod LookLaws
+pub mod WalkLaws
 pub mod AfterLaws

@@ -11,7 +11,7 @@ ghost use Rattle.scope.specs.Series.{placeIn};
 ghost use Rattle.scope.specs.Tables.{keyOf, idWords, nameWords, flag, indexNo, pipeStatusNo, statusNo, typeNo, targetNo, comparisonNo, operatorNo, valueNo, valueNumber};
 ghost use Rattle.scope.specs.declared.Target.the-variants as target;
 ghost use Rattle.tables.specs.Table.{splice};
-ghost use Rattle.tables.specs.Holding.{optIn, Words, Row, Rows, SomeRow, SomeRows, Below, isJunction};
+ghost use Rattle.tables.specs.Holding.{optIn, Words, Row, Rows, SomeRow, SomeRows, Keyed, OtherKeys, Below, isJunction};
 use fields::Field;
 use fields::Span;
 use scope::Comparison;
@@ -167,6 +167,42 @@ fn row_is(text: &[u8], words: &[u64], row: usize, key: u64, name: &[u8]) -> bool
     fields::equal(&text[a..e], name)
 }
 
+// The first row from number `from` on that may have the key: those before it have another. Four are looked at in a turn, and where fewer are left it stops.
+fn next_with_key(
+    words: &[u64],
+    base: usize,
+    stride: usize,
+    from: usize,
+    count: usize,
+    key: u64,
+) -> usize
+    requires { ⌜ (from ≤ count) × Keyed (now words) base stride count ⌝ }
+    ensures { λ r. ⌜ (from ≤ r) × (r ≤ count) × OtherKeys (now (words .entry)) base stride key from r ⌝ }
+{
+    if count < 4 {
+        return from;
+    }
+    let last = count - 4; // the last one with three after it
+    let mut i = from;
+    while i <= last {
+        let at = base + i * stride + 2;
+        if words[at] == key {
+            return i;
+        }
+        if words[at + stride] == key {
+            return i + 1;
+        }
+        if words[at + 2 * stride] == key {
+            return i + 2;
+        }
+        if words[at + 3 * stride] == key {
+            return i + 3;
+        }
+        i += 4;
+    }
+    i
+}
+
 // The first of `count` rows that has the name.
 fn find_name(
     text: &[u8],
@@ -181,14 +217,17 @@ fn find_name(
 {
     let key = name_key(name);
     let mut i = 0;
-    while i < count {
+    loop {
+        i = next_with_key(words, base, stride, i, count, key);
+        if count <= i {
+            return Found::Nowhere;
+        }
         let row = base + i * stride;
         if row_is(text, words, row, key, name) {
             return Found::At(i);
         }
         i += 1;
     }
-    Found::Nowhere
 }
 
 pub fn find_node(text: &[u8], words: &[u64], count: usize, name: &[u8]) -> Found

@@ -1,71 +1,60 @@
-use Prim.Native.Nat.{ℕ, _+_, _*_, _-_, _<_, _≤_}
+-- `tables::find_name` meets its contract. Assumes nothing.
+use Prim.Native.Nat.{_-_, _<_}
 use native.Mathlib.Omega.{arith}
-use native.Mathlib.Numerals.{add-one}
-use borrow.Author.Needs.{needs}
 use denote.Ref.{now}
-use mathlib.Core.Path.{_≡_, refl, sym, ap, _∙_}
-use mathlib.Core.List.{List}
-use lib.ListN.{length, drop, getD}
-use Rattle.fields.specs.Fields.{Name}
-use Rattle.scope.specs.Records.{lookup, lookupFrom, noName}
-use Rattle.tables.specs.Holding.{Row, Rows}
-use Rattle.tables.proofs.LookLaws.{look-here, look-on, look-end}
+use borrow.Author.Needs.{needs}
+use Rattle.tables.proofs.WalkLaws.{Searched, start-search, past-search, next-search, found-search, none-search, rows-keyed, some-row}
 use Rattle.tables.proofs.find_name.Statement.{statement}
 use Rattle.tables.proofs.find_name.Tie as tie
-use Rattle.tables.proofs.find_name.Reads as reads
-use Rattle.tables.proofs.find_name.Lts as lts
-use Rattle.tables.proofs.name_key.Reads as name-key-reads
-use Rattle.tables.proofs.row_is.Reads as row-is-reads
 
 abbrev Inv-loop : tie.InvT-loop
 Inv-loop text words base stride count name key i₀ i =
-    (ns : List Name) → count ≡ length ns → Rows text words base stride ns → lookupFrom i (drop i ns) name ≡ lookup ns name
+    Searched text words base stride count name i
 
 abbrev μ-loop : tie.MeasureT-loop
 μ-loop text words base stride count name key i₀ i =
     count - i
 
-row : (c : tie.In-loop Inv-loop μ-loop) → let a = c .before .before .before .before .before .before .args in
-    Row (now (a .text)) (now (a .words)) (a .base + c .before .loop .i * a .stride) (getD (c .before .before .before .before .before .before .pre .names) (c .before .loop .i) noName)
-row c = let p = c .before .before .before .before .before .before .pre in p .rows (c .before .loop .i) (omega (arith, p .long, c .loop-test .taken))
-
 name-key-requires : tie.Need-name-key-requires Inv-loop μ-loop
 name-key-requires c κs = search needs
 
 loop-holds : tie.Need-loop-holds Inv-loop μ-loop
-loop-holds c = λ ns k rows. refl
+loop-holds c = start-search (now (c .before .before .before .before .args .text)) (now (c .before .before .before .before .args .words)) (c .before .before .before .before .args .base) (c .before .before .before .before .args .stride) (c .before .before .before .before .args .count) (now (c .before .before .before .before .args .name))
 
-mul-row : tie.Need-mul-row Inv-loop μ-loop
-mul-row c = omega (arith, row c .room)
+next-with-key-requires : tie.Need-next-with-key-requires Inv-loop μ-loop
+next-with-key-requires c κs = (c .loop .inv .0, rows-keyed (c .before .before .before .before .before .pre))
 
-add-row : tie.Need-add-row Inv-loop μ-loop
-add-row c = omega (arith, row c .room)
-
-row-is-requires : tie.Need-row-is-requires Inv-loop μ-loop
-row-is-requires c κs = (record { name = getD (c .before .before .before .before .before .before .pre .names) (c .before .loop .i) noName; row = row c }, c .before .before .name-key .ensures)
+-- the search goes on where the walk ended
+walked : (c : tie.After-next-with-key Inv-loop μ-loop) → Searched (now (c .before .before .before .before .before .before .args .text)) (now (c .before .before .before .before .before .before .args .words)) (c .before .before .before .before .before .before .args .base) (c .before .before .before .before .before .before .args .stride) (c .before .before .before .before .before .before .args .count) (now (c .before .before .before .before .before .before .args .name)) (c .next-with-key .result)
+walked c = past-search (now (c .before .before .before .before .before .before .args .text)) (now (c .before .before .before .before .before .before .args .words)) (c .before .before .before .before .before .before .args .base) (c .before .before .before .before .before .before .args .stride) (c .before .before .before .before .before .before .args .count) (now (c .before .before .before .before .before .before .args .name)) (c .before .before .name-key .result) (c .before .before .name-key .ensures) (c .before .loop .i) (c .next-with-key .result) (c .before .loop .inv) (c .next-with-key .ensures)
 
 returns : tie.Need-returns Inv-loop μ-loop
-returns c =
-    λ ns k rows.
-    let i : ℕ = c .before .before .before .loop .i in
-    let h : i < length ns = omega (arith, k, c .before .before .loop-test .taken) in
-    sym (look-here ns i (now (c .before .before .before .before .before .before .before .before .args .name)) h (sym (c .before .row-is .ensures (getD ns i noName) (rows i h)) ∙ c .if1 .taken)) ∙ c .before .before .before .loop .inv ns k rows
+returns c = none-search (now (c .before .before .before .before .before .before .before .args .text)) (now (c .before .before .before .before .before .before .before .args .words)) (c .before .before .before .before .before .before .before .args .base) (c .before .before .before .before .before .before .before .args .stride) (c .before .before .before .before .before .before .before .args .count) (now (c .before .before .before .before .before .before .before .args .name)) (c .before .next-with-key .result) (walked (c .before)) (c .if1 .taken)
 
-add-i : tie.Need-add-i Inv-loop μ-loop
-add-i c = omega arith
+-- and that is one of the rows
+inside : (c : tie.Else1 Inv-loop μ-loop) → c .before .next-with-key .result < c .before .before .before .before .before .before .before .args .count
+inside c = omega (arith, c .if1 .left)
 
-loop-less : tie.Need-loop-less Inv-loop μ-loop
-loop-less c = omega arith
+mul-row : tie.Need-mul-row Inv-loop μ-loop
+mul-row c = omega (arith, rows-keyed (c .before .before .before .before .before .before .before .pre) (c .before .next-with-key .result) (inside c))
 
-loop-again : tie.Need-loop-again Inv-loop μ-loop
-loop-again c =
-    λ ns k rows.
-    let i : ℕ = c .before .before .before .loop .i in
-    let h : i < length ns = omega (arith, k, c .before .before .loop-test .taken) in
-    rw add-one (sym (look-on ns i (now (c .before .before .before .before .before .before .before .before .args .name)) h (sym (c .before .row-is .ensures (getD ns i noName) (rows i h)) ∙ c .if1 .left)) ∙ c .before .before .before .loop .inv ns k rows)
+add-row : tie.Need-add-row Inv-loop μ-loop
+add-row c = omega (arith, rows-keyed (c .before .before .before .before .before .before .before .pre) (c .before .next-with-key .result) (inside c))
+
+row-is-requires : tie.Need-row-is-requires Inv-loop μ-loop
+row-is-requires c κs = (some-row (c .before .before .before .before .before .before .before .pre) (c .before .next-with-key .result) (inside c), c .before .before .before .name-key .ensures)
 
 returns-2 : tie.Need-returns-2 Inv-loop μ-loop
-returns-2 c = λ ns k rows. sym (look-end ns (c .before .loop .i) (now (c .before .before .before .before .before .before .args .name)) (omega (arith, k, c .loop-test .left))) ∙ c .before .loop .inv ns k rows
+returns-2 c = found-search (now (c .before .before .before .before .before .before .before .before .before .args .text)) (now (c .before .before .before .before .before .before .before .before .before .args .words)) (c .before .before .before .before .before .before .before .before .before .args .base) (c .before .before .before .before .before .before .before .before .before .args .stride) (c .before .before .before .before .before .before .before .before .before .args .count) (now (c .before .before .before .before .before .before .before .before .before .args .name)) (c .before .before .before .next-with-key .result) (walked (c .before .before .before)) (c .before .row-is .result) (c .before .row-is .ensures) (inside (c .before .before)) (c .if2 .taken)
+
+add-i : tie.Need-add-i Inv-loop μ-loop
+add-i c = omega (arith, inside (c .before .before))
+
+loop-less : tie.Need-loop-less Inv-loop μ-loop
+loop-less c = omega (arith, inside (c .before .before), c .before .before .before .next-with-key .ensures .0)
+
+loop-again : tie.Need-loop-again Inv-loop μ-loop
+loop-again c = next-search (now (c .before .before .before .before .before .before .before .before .before .args .text)) (now (c .before .before .before .before .before .before .before .before .before .args .words)) (c .before .before .before .before .before .before .before .before .before .args .base) (c .before .before .before .before .before .before .before .before .before .args .stride) (c .before .before .before .before .before .before .before .before .before .args .count) (now (c .before .before .before .before .before .before .before .before .before .args .name)) (c .before .before .before .next-with-key .result) (walked (c .before .before .before)) (c .before .row-is .result) (c .before .row-is .ensures) (inside (c .before .before)) (c .if2 .left)
 
 pub find-name-spec : {M : Type 1} → statement M
 find-name-spec =
@@ -75,11 +64,12 @@ find-name-spec =
     μ-loop
     name-key-requires
     loop-holds
+    next-with-key-requires
+    returns
     mul-row
     add-row
     row-is-requires
-    returns
+    returns-2
     add-i
     loop-less
-    loop-again
-    returns-2)
+    loop-again)
