@@ -2,6 +2,7 @@
 pub mod RegionLaws
 pub mod BlockLaws
 pub mod SizeLaws
+pub mod ApartLaws
 pub mod HoldLaws
 pub mod EmptyLaws
 pub mod ReadLaws
