@@ -17,9 +17,13 @@ pub enum LineKind {
     Other,
 }
 
+// Most bytes of a field are told by the first comparison alone.
 pub fn is_space(b: u8) -> bool
     ensures { λ r. ⌜ r ≡ isSpace b ⌝ }
 {
+    if 32 < b {
+        return false;
+    }
     let k = decimals::class_of(b);
     if let Class::Space = k { true } else { false }
 }
