@@ -12,10 +12,10 @@ use borrow.Author.Tests.{le-leb, lt-leb, ne-eqb}
 use Rattle.decimals.specs.Bytes.{classOf, rank}
 use Rattle.decimals.specs.declared.Class.the-variants.{Digit, Sign, Point, Exponent, Other}
 use Rattle.fields.specs.Lines.{isSpace, push, chunks, joined, lineLen, startTrimmed, keepByte, endTrimmed, trimmed, kindBy, lineKind, cutOf}
-use Rattle.fields.specs.Scan.{spanLen}
+use Rattle.fields.specs.Scan.{spanLen, Skips}
 use Rattle.fields.specs.declared.Kind.the-variants.{Space, Kept}
 use Rattle.fields.specs.declared.LineKind.the-variants.{Blank}
-use Rattle.fields.proofs.ScanLaws.{span-stop}
+use Rattle.fields.proofs.ScanLaws.{span-stop, skip-past}
 
 -- ---- whitespace: no byte above 32
 other-class : (d g p x : Bool) → eqb (rank (cond d Digit (cond g Sign (cond p Point (cond x Exponent Other))))) 0 ≡ false
@@ -39,6 +39,14 @@ line-here l i h = ap lineLen (drop-cons l i 0 h)
 pub line-none : (l : List ℕ) (i : ℕ) → length l ≤ i → lineLen (drop i l) ≡ 0
 unfolding lineLen
 line-none l i h = rw (drop-of-length-le l h)
+
+-- bytes that are no line feed are passed over
+line-on : (b : ℕ) (bs : List ℕ) → eqb b 10 ≡ false → lineLen (b ∷ bs) ≡ suc (lineLen bs)
+unfolding lineLen
+line-on b bs e = rw e
+
+pub line-past : {l : List ℕ} {at r : ℕ} → Skips l at 10 r → r + lineLen (drop r l) ≡ at + lineLen (drop at l)
+line-past s = skip-past 10 lineLen line-on s
 
 pub lineLen-le : (l : List ℕ) → lineLen l ≤ length l
 unfolding lineLen
@@ -189,7 +197,7 @@ module _ (l : List ℕ) (at i : ℕ) (es : i ≡ at + spanLen Space (drop at l))
   kind-none h = sym (ap (λ x. kindBy (endTrimmed x)) (start-at ∙ drop-of-length-le l h))
 
 -- ---- the cut
-pub cut-span : (l : List ℕ) → spanLen Kept l ≡ length (cutOf l)
+cut-span : (l : List ℕ) → spanLen Kept l ≡ length (cutOf l)
 unfolding spanLen cutOf
 cut-span [] = refl
 cut-span (b ∷ bs) = go (eqb b 59) (cut-span bs)
@@ -197,6 +205,14 @@ cut-span (b ∷ bs) = go (eqb b 59) (cut-span bs)
     go : (t : Bool) → spanLen Kept bs ≡ length (cutOf bs) → cond (not t) (suc (spanLen Kept bs)) 0 ≡ length (cond t [] (b ∷ cutOf bs))
     go true e = refl
     go false e = ap suc e
+
+keep-on : (b : ℕ) (bs : List ℕ) → eqb b 59 ≡ false → spanLen Kept (b ∷ bs) ≡ suc (spanLen Kept bs)
+unfolding spanLen
+keep-on b bs e = rw e
+
+-- from a place r of l up to which no `;` stands
+pub cut-past : {l : List ℕ} {at r : ℕ} → Skips l at 59 r → r + spanLen Kept (drop r l) ≡ at + length (cutOf (drop at l))
+cut-past {l} {at} s = skip-past 59 (spanLen Kept) keep-on s ∙ ap (at +_) (cut-span (drop at l))
 
 -- what is kept stands at the start
 pub cut-prefix : (l : List ℕ) → take (length (cutOf l)) l ≡ cutOf l

@@ -1,9 +1,12 @@
--- What the one scan of this crate promises: no rule of document 01 names it. Assumes nothing.
-use Prim.Native.Nat.{ℕ, suc}
-use mathlib.Core.Bool.{Bool, cond, not}
+-- What the scans of this crate promise: no rule of document 01 names them. Assumes nothing.
+use Prim.Native.Nat.{ℕ, suc, _-_, _≤_}
+use mathlib.Core.Path.{_≡_}
+use mathlib.Core.Bool.{Bool, false, cond, not, _||_}
 use mathlib.Core.List.{List, [], _∷_}
 use lib.Dec.{eqb}
+use lib.ListN.{length, drop}
 use Rattle.fields.specs.Lines.{isSpace}
+use Rattle.fields.specs.Fields.{part}
 use Rattle.fields.specs.declared.Kind.{Kind}
 use Rattle.fields.specs.declared.Kind.the-variants.{Space, Word, Kept}
 
@@ -17,3 +20,14 @@ isKind Kept b = not (eqb b 59)
 unfoldable pub spanLen : Kind → List ℕ → ℕ
 spanLen k [] = 0
 spanLen k (b ∷ bs) = cond (isKind k b) (suc (spanLen k bs)) 0
+
+-- the byte b stands in the text
+unfoldable pub has : ℕ → List ℕ → Bool
+has b [] = false
+has b (x ∷ xs) = eqb x b || has b xs
+
+-- r is a place not before `from`, l has the bytes between, and the byte b is none of them
+pub record Skips (l : List ℕ) (from b r : ℕ) : Type 0 where
+  pub after : from ≤ r
+  pub inside : r - from ≤ length (drop from l)
+  pub none : has b (part from r l) ≡ false

@@ -6,7 +6,7 @@ ghost use lib.ListN.{length, take, drop};
 ghost use Rattle.fields.specs.Lines.{isSpace, lineLen, endTrimmed, trimmed, lineKind, kindBy, cutOf};
 ghost use Rattle.fields.specs.Fields.{part, fieldsAt, lettersOr, Next, Past};
 ghost use Rattle.fields.specs.Words.{same, raised, spelled, begins};
-ghost use Rattle.fields.specs.Scan.{isKind, spanLen};
+ghost use Rattle.fields.specs.Scan.{isKind, spanLen, has, Skips};
 use decimals::Class;
 
 // ---- lines
@@ -76,11 +76,46 @@ pub fn cut(text: &[u8], at: usize, n: usize) -> &[u8]
     &text[at..e]
 }
 
+// Whether the byte is one of the sixteen. All are looked at, so that the compiler can compare them at once.
+fn block_has(block: &[u8], b: u8) -> bool
+    requires { ⌜ length (now block) ≡ 16 ⌝ }
+    ensures { λ r. ⌜ r ≡ has b (now (block .entry)) ⌝ }
+{
+    let mut found = false;
+    let mut i = 0;
+    while i < 16 {
+        if block[i] == b {
+            found = true;
+        }
+        i += 1;
+    }
+    found
+}
+
+// Where to look for the byte: from `from` on, it does not stand before. Sixteen bytes a turn.
+fn skip_blocks(text: &[u8], from: usize, b: u8) -> usize
+    ensures { λ r. ⌜ Skips (now (text .entry)) from b r ⌝ }
+{
+    let n = text.len();
+    if n < from {
+        return from;
+    }
+    let mut i = from;
+    while 16 <= n - i {
+        let e = i + 16;
+        if block_has(&text[i..e], b) {
+            return i;
+        }
+        i = e;
+    }
+    i
+}
+
 // Where the line at `at` ends, its line feed with it.
 pub fn line_end(text: &[u8], at: usize) -> usize
     ensures { λ r. ⌜ r ≡ at + lineLen (drop at (now (text .entry))) ⌝ }
 {
-    let mut i = at;
+    let mut i = skip_blocks(text, at, 10);
     while i < text.len() {
         if text[i] == 10 {
             return i + 1;
@@ -139,7 +174,8 @@ pub fn trimmed(l: &[u8]) -> &[u8]
 pub fn cut_end(l: &[u8], at: usize) -> usize
     ensures { λ r. ⌜ r ≡ at + length (cutOf (drop at (now (l .entry)))) ⌝ }
 {
-    reach(l, at, Kind::Kept)
+    let i = skip_blocks(l, at, 59);
+    reach(l, i, Kind::Kept)
 }
 
 // ---- fields

@@ -1,18 +1,18 @@
 -- `fields::cut_end` meets its contract. Assumes nothing.
-use Prim.Native.Nat.{_+_}
-use denote.Ref.{now}
-use mathlib.Core.Path.{ap, _∙_}
-use lib.ListN.{drop}
-use Rattle.fields.proofs.LineLaws.{cut-span}
+use mathlib.Core.Path.{_∙_}
+use Rattle.fields.proofs.LineLaws.{cut-past}
 use borrow.Author.Needs.{needs}
 use Rattle.fields.proofs.cut_end.Statement.{statement}
 use Rattle.fields.proofs.cut_end.Tie as tie
+
+skip-blocks-requires : tie.Need-skip-blocks-requires
+skip-blocks-requires c κs = search needs
 
 reach-requires : tie.Need-reach-requires
 reach-requires c κs = search needs
 
 returns : tie.Need-returns
-returns c = c .reach .ensures ∙ ap (λ n. c .before .before .args .at + n) (cut-span (drop (c .before .before .args .at) (now (c .before .before .args .l))))
+returns c = c .reach .ensures ∙ cut-past (c .before .skip-blocks .ensures)
 
 pub cut-end-spec : {M : Type 1} → statement M
-cut-end-spec = tie.close (tie.spec reach-requires returns)
+cut-end-spec = tie.close (tie.spec skip-blocks-requires reach-requires returns)
