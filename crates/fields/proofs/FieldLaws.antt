@@ -9,7 +9,7 @@ use mathlib.Core.Bool.{Bool, true, false, cond}
 use mathlib.Core.List.{List, [], _∷_, map}
 use lib.ListN.{length, take, drop, getD, length-drop, length-take, drop-of-length-le}
 use lib.Seq.{drop-cons, drop-drop, length-take-le, take-take, take-nil, getD-drop}
-use Rattle.fields.specs.Lines.{isSpace, cutOf}
+use Rattle.fields.specs.Lines.{isSpace, startTrimmed, cutOf}
 use Rattle.fields.specs.Fields.{Name, part, nameIn, onFirst, before, fieldsOf, fieldsAt, rest, endOr, Fits, Next, Past}
 use Rattle.fields.specs.Scan.{spanLen}
 use Rattle.fields.specs.declared.Kind.the-variants.{Space, Word}
@@ -17,7 +17,7 @@ use Rattle.fields.specs.declared.Span.{Span}
 use Rattle.fields.specs.declared.Field.{Field}
 use Rattle.fields.specs.declared.Field.the-variants.{Taken, Nothing}
 use Rattle.fields.proofs.ScanLaws.{span-le, span-stop}
-use Rattle.fields.proofs.LineLaws.{cut-prefix}
+use Rattle.fields.proofs.LineLaws.{start-at, cut-prefix}
 
 -- whitespace before the fields is passed over
 pub fields-skip : (at : ℕ) (l : List ℕ) → fieldsOf at l ≡ fieldsOf (at + spanLen Space l) (drop (spanLen Space l) l)
@@ -139,6 +139,32 @@ next-unique l at (Taken s) (Taken t) n m =
 next-unique l at (Taken s) Nothing n m = let q = sym (n .taken s refl .0) ∙ m .nothing refl in let z : _≡_ {A = ℕ} 0 1 = cc in absurd (omega arith)
 next-unique l at Nothing (Taken t) n m = let q = sym (n .nothing refl) ∙ m .taken t refl .0 in let z : _≡_ {A = ℕ} 0 1 = cc in absurd (omega arith)
 next-unique l at Nothing Nothing n m = refl
+
+-- ---- where the next field starts: with what is left of the line, its start trimmed
+module _ (l : List ℕ) (at : ℕ) (f : Field) (n : Next l at f) where
+  abbrev start : ℕ
+  start = at + spanLen Space (drop at l)
+
+  none-left : drop start l ≡ [] → fieldsAt l at ≡ []
+  unfolding fieldsOf
+  none-left e = skipped l at start 0 refl ∙ ap (fieldsOf start) e
+
+  some-left : (b : ℕ) (bs : List ℕ) → drop start l ≡ b ∷ bs → f ≡ Taken (record { at = start; end = start + spanLen Word (drop start l) })
+  some-left b bs h = next-unique l at f _ n (next-taken l at start _ refl (omega (arith, ap length h, length-drop start l)) refl)
+
+  pub start-taken : (s : Span) → f ≡ Taken s → startTrimmed (drop at l) ≡ drop (s .at) l
+  start-taken s e = start-at l at start refl ∙ go (drop start l) refl
+    where
+      go : (d : List ℕ) → drop start l ≡ d → drop start l ≡ drop (s .at) l
+      go [] h = let q = sym (n .taken s e .0) ∙ none-left h in let z : _≡_ {A = ℕ} 0 1 = cc in absurd (omega arith)
+      go (b ∷ bs) h = let q = sym e ∙ some-left b bs h in let k : s .at ≡ start = cc in rw k
+
+  pub start-nothing : f ≡ Nothing → startTrimmed (drop at l) ≡ []
+  start-nothing e = start-at l at start refl ∙ go (drop start l) refl
+    where
+      go : (d : List ℕ) → drop start l ≡ d → d ≡ []
+      go [] h = refl
+      go (b ∷ bs) h = let q = sym e ∙ some-left b bs h in let z : _≡_ {A = ℕ} 0 1 = cc in absurd (omega arith)
 
 -- ---- where fields stand
 -- a name stands in the text, not before the place `from`, and is not empty

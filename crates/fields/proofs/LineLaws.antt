@@ -124,6 +124,20 @@ start-span (b ∷ bs) = go (isSpace b) (start-span bs)
     go true e = e
     go false e = refl
 
+start-again : (l : List ℕ) → startTrimmed (startTrimmed l) ≡ startTrimmed l
+unfolding startTrimmed
+start-again [] = refl
+start-again (b ∷ bs) = go (isSpace b) refl (start-again bs)
+  where
+    go : (t : Bool) → isSpace b ≡ t → startTrimmed (startTrimmed bs) ≡ startTrimmed bs → startTrimmed (cond t (startTrimmed bs) (b ∷ bs)) ≡ cond t (startTrimmed bs) (b ∷ bs)
+    go true e h = h
+    go false e h = rw e
+
+-- a line whose start is trimmed is trimmed to the same
+pub trimmed-start : (l : List ℕ) → trimmed (startTrimmed l) ≡ trimmed l
+unfolding trimmed
+trimmed-start l = ap endTrimmed (start-again l)
+
 keep-prefix : (b : ℕ) (bs xs : List ℕ) → take (length xs) bs ≡ xs → take (length (keepByte b xs)) (b ∷ bs) ≡ keepByte b xs
 keep-prefix b bs [] e = go (isSpace b)
   where
@@ -181,7 +195,7 @@ kind-kept b [] e = rw e
 kind-kept b (x ∷ xs) e = refl
 
 module _ (l : List ℕ) (at i : ℕ) (es : i ≡ at + spanLen Space (drop at l)) where
-  start-at : startTrimmed (drop at l) ≡ drop i l
+  pub start-at : startTrimmed (drop at l) ≡ drop i l
   start-at = sym (start-span (drop at l)) ∙ drop-drop (spanLen Space (drop at l)) at l ∙ ap (λ j. drop j l) (sym es)
 
   pub kind-some : i < length l → kindBy (getD l i 0 ∷ []) ≡ lineKind (drop at l)

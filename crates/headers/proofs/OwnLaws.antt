@@ -1,4 +1,4 @@
--- The lines of a group, one after another; and how they grow with the text that is read. Assumes nothing.
+-- What a line is; the lines of a group, one after another; and how they grow with the text that is read. Assumes nothing.
 use Prim.Native.Nat.{ℕ, zero, suc, _+_, _-_, _≤_, _<_}
 use native.Mathlib.Omega.{arith}
 use native.Mathlib.Nat.{add-zero, add-assoc}
@@ -7,29 +7,56 @@ use mathlib.Core.Bool.{Bool, true, false, cond}
 use mathlib.Core.List.{List, [], _∷_, _++_, map, append-assoc, append-nil, map-append}
 use lib.ListN.{length, take, drop, length-append, length-take, length-drop, drop-of-length-le}
 use lib.Seq.{take-length, take-all}
-use Rattle.fields.specs.Fields.{Name, part, fieldsOf, fieldsAt}
-use Rattle.fields.specs.Lines.{chunks, joined, lineLen, lineKind, trimmed}
+use Rattle.decimals.specs.Bytes.{classOf}
+use Rattle.fields.specs.Fields.{Name, part, fieldsOf, fieldsAt, Next}
+use Rattle.fields.specs.Lines.{chunks, joined, lineLen, startTrimmed, endTrimmed, trimmed, lineKind}
+use Rattle.fields.specs.Words.{begins}
+use Rattle.fields.specs.Scan.{spanLen}
 use Rattle.fields.specs.declared.Span.{Span}
 use Rattle.fields.specs.declared.LineKind.{LineKind}
-use Rattle.fields.proofs.FieldLaws.{drop-take, part-take}
-use Rattle.fields.proofs.LineLaws.{end-le, end-more, body-is, body-long, chunks-at}
+use Rattle.fields.specs.declared.LineKind.the-variants as kind
+use Rattle.fields.specs.declared.Field.{Field}
+use Rattle.fields.specs.declared.Field.the-variants.{Taken, Nothing}
+use Rattle.fields.proofs.FieldLaws.{start-taken, start-nothing, drop-take, part-take}
+use Rattle.fields.proofs.LineLaws.{end-le, end-more, body-is, body-long, chunks-at, trimmed-start}
+use Rattle.fields.proofs.WordLaws.{begins-trimmed}
 use Rattle.lines.specs.Reader as L
 use Rattle.lines.specs.Text.{Line}
 use Rattle.lines.specs.Stretch.{secBy, ownBy, secAfter}
 use Rattle.scope.specs.declared.Section.{Section}
 use Rattle.scope.specs.declared.Section.the-variants.{Junctions, Reservoirs, Tanks, Pipes, Pumps, Valves, Curves, Patterns, Demands, Emitters, Coordinates, Times, Rules, Passed}
+use Rattle.scope.specs.Spelling.{wordRule}
 use Rattle.scope.specs.Sections.{isRules}
 use Rattle.scope.specs.Lines.{sortBy, sortOf, ruleFields}
 use Rattle.headers.specs.Own.{ownFields, groupFields, OwnHere, OwnFrom, NextHere, NextOwn}
 use Rattle.headers.specs.declared.OwnLine.{OwnLine}
 use Rattle.headers.specs.declared.OwnLine.the-variants as own
 
--- what a line is, from its kind and its trimmed bytes
-pub sort-is : (l c w : List ℕ) (at : ℕ) (k : LineKind) → c ≡ take (length l) (drop at l) → w ≡ trimmed c → k ≡ lineKind (drop at l) → sortBy k w ≡ sortOf (drop at l)
-unfolding sortOf
-sort-is l c w at k ec ew ek =
-    let e : c ≡ drop at l = ec ∙ take-all (length l) (drop at l) (omega (arith, length-drop at l)) in
-    rw (ek, ew, e)
+-- ---- what a line is
+pub sort-nothing : (l : List ℕ) (at : ℕ) (f : Field) → Next l at f → f ≡ Nothing → L.empty ≡ sortOf (drop at l)
+unfolding sortOf sortBy lineKind trimmed endTrimmed
+sort-nothing l at f n e = rw (start-nothing l at f n e)
+
+-- the line c, from its first field on, is what the whole line is
+module _ (l : List ℕ) (at : ℕ) (f : Field) (n : Next l at f) (s : Span) (e : f ≡ Taken s) (c : List ℕ) (ec : c ≡ take (length l) (drop (s .at) l)) where
+  from-field : c ≡ startTrimmed (drop at l)
+  from-field = ec ∙ take-all (length l) (drop (s .at) l) (omega (arith, length-drop (s .at) l)) ∙ sym (start-taken l at f n s e)
+
+  same-trimmed : trimmed c ≡ trimmed (drop at l)
+  same-trimmed = ap trimmed from-field ∙ trimmed-start (drop at l)
+
+  pub sort-is : (k : LineKind) → k ≡ lineKind c → sortBy k (trimmed c) ≡ sortOf (drop at l)
+  unfolding sortOf lineKind
+  sort-is k ek = rw (ek, same-trimmed)
+
+  -- it begins with RULE where the trimmed line does
+  begins-rule : begins c wordRule ≡ begins (trimmed c) wordRule
+  unfolding spanLen classOf
+  begins-rule = ap (λ (x : List ℕ). begins x wordRule) from-field ∙ begins-trimmed (drop at l) wordRule refl ∙ sym (ap (λ (x : List ℕ). begins x wordRule) same-trimmed)
+
+  pub sort-plain : kind.Other ≡ lineKind c → sortBy kind.Other c ≡ sortOf (drop at l)
+  unfolding sortBy
+  sort-plain ek = ap (λ (t : Bool). cond t L.start L.other) begins-rule ∙ sort-is kind.Other ek
 
 -- a line of RULES that is the group's own leaves the section as it is
 rules-only : (s : Section) → isRules s ≡ true → s ≡ Rules

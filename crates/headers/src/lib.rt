@@ -6,6 +6,7 @@ ghost use Rattle.lines.specs.Stretch.{secBy, ownBy};
 ghost use Rattle.scope.specs.Sections.{sectionOf, isRules};
 ghost use Rattle.scope.specs.Lines.{sortBy, sortOf};
 ghost use Rattle.headers.specs.Own.{sortIn, OwnFrom, NextOwn};
+use fields::Field;
 use fields::LineKind;
 use fields::Span;
 use scope::Section;
@@ -65,7 +66,7 @@ pub enum Sort {
     Other,
 }
 
-// A line that is neither blank nor a header, trimmed.
+// A line that is neither blank nor a header, from its first field on.
 fn plain_sort(w: &[u8]) -> Sort
     ensures { λ r. ⌜ sortIn r ≡ sortBy kind.Other (now (w .entry)) ⌝ }
 {
@@ -75,15 +76,19 @@ fn plain_sort(w: &[u8]) -> Sort
     Sort::Other
 }
 
-// What the line of `l` from `at` on is.
+// What the line of `l` from `at` on is. Only a header is trimmed at its end: no other line asks for it.
 pub fn sort_of(l: &[u8], at: usize) -> Sort
     ensures { λ r. ⌜ sortIn r ≡ sortOf (drop at (now (l .entry))) ⌝ }
 {
-    let k = fields::line_kind(l, at);
-    let w = fields::trimmed(fields::cut(l, at, l.len()));
+    let f = fields::next_field(l, at);
+    let Field::Taken(s) = f else {
+        return Sort::Empty;
+    };
+    let w = fields::cut(l, s.at, l.len());
+    let k = fields::line_kind(w, 0);
     match k {
         LineKind::Blank => Sort::Empty,
-        LineKind::Header => Sort::Heading(section_of(w)),
+        LineKind::Header => Sort::Heading(section_of(fields::trimmed(w))),
         LineKind::Other => plain_sort(w),
     }
 }
