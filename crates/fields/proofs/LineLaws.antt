@@ -13,7 +13,7 @@ use Rattle.decimals.specs.Bytes.{classOf, rank}
 use Rattle.decimals.specs.declared.Class.the-variants.{Digit, Sign, Point, Exponent, Other}
 use Rattle.fields.specs.Lines.{isSpace, push, chunks, joined, lineLen, startTrimmed, keepByte, endTrimmed, trimmed, kindBy, lineKind, cutOf}
 use Rattle.fields.specs.Scan.{spanLen, Skips}
-use Rattle.fields.specs.declared.Kind.the-variants.{Space, Kept}
+use Rattle.fields.specs.declared.Kind.the-variants.{Space, Kept, Line}
 use Rattle.fields.specs.declared.LineKind.the-variants.{Blank}
 use Rattle.fields.proofs.ScanLaws.{span-stop, skip-past}
 
@@ -32,21 +32,37 @@ above-space b h =
     (other-class (leb 48 b && leb b 57) (eqb b 43 || eqb b 45) (eqb b 46) (eqb b 69 || eqb b 101))
 
 -- ---- the first line of a text
-pub line-here : (l : List ℕ) (i : ℕ) → i < length l → lineLen (drop i l) ≡ suc (cond (eqb (getD l i 0) 10) 0 (lineLen (drop (suc i) l)))
-unfolding lineLen
-line-here l i h = ap lineLen (drop-cons l i 0 h)
+-- a line with a line feed, and a last line that lacks it
+line-fed : (l : List ℕ) → spanLen Line l < length l → lineLen l ≡ suc (spanLen Line l)
+unfolding lineLen spanLen
+line-fed [] h = absurd (omega arith)
+line-fed (b ∷ bs) h = go (eqb b 10) h (line-fed bs)
+  where
+    go : (t : Bool) → cond (not t) (suc (spanLen Line bs)) 0 < suc (length bs) → (spanLen Line bs < length bs → lineLen bs ≡ suc (spanLen Line bs))
+        → suc (cond t 0 (lineLen bs)) ≡ suc (cond (not t) (suc (spanLen Line bs)) 0)
+    go true h f = refl
+    go false h f = ap suc (f (omega arith))
 
-pub line-none : (l : List ℕ) (i : ℕ) → length l ≤ i → lineLen (drop i l) ≡ 0
-unfolding lineLen
-line-none l i h = rw (drop-of-length-le l h)
+line-last : (l : List ℕ) → length l ≤ spanLen Line l → lineLen l ≡ spanLen Line l
+unfolding lineLen spanLen
+line-last [] h = refl
+line-last (b ∷ bs) h = go (eqb b 10) h (line-last bs)
+  where
+    go : (t : Bool) → suc (length bs) ≤ cond (not t) (suc (spanLen Line bs)) 0 → (length bs ≤ spanLen Line bs → lineLen bs ≡ spanLen Line bs)
+        → suc (cond t 0 (lineLen bs)) ≡ cond (not t) (suc (spanLen Line bs)) 0
+    go true h f = absurd (omega arith)
+    go false h f = ap suc (f (omega arith))
 
--- bytes that are no line feed are passed over
-line-on : (b : ℕ) (bs : List ℕ) → eqb b 10 ≡ false → lineLen (b ∷ bs) ≡ suc (lineLen bs)
-unfolding lineLen
-line-on b bs e = rw e
+-- where the line ends, by where its line feed is looked for and where it stands
+module _ (l : List ℕ) (at i e : ℕ) (s : Skips l at 10 i) (es : e ≡ i + spanLen Line (drop i l)) where
+  feed : e ≡ at + spanLen Line (drop at l)
+  feed = es ∙ skip-past 10 Line (λ x h. ap not h) s
 
-pub line-past : {l : List ℕ} {at r : ℕ} → Skips l at 10 r → r + lineLen (drop r l) ≡ at + lineLen (drop at l)
-line-past s = skip-past 10 lineLen line-on s
+  pub end-fed : e < length l → e + 1 ≡ at + lineLen (drop at l)
+  end-fed h = omega (arith, feed, line-fed (drop at l) (omega (arith, feed, length-drop at l)))
+
+  pub end-last : length l ≤ e → e ≡ at + lineLen (drop at l)
+  end-last h = omega (arith, feed, line-last (drop at l) (omega (arith, feed, length-drop at l)))
 
 pub lineLen-le : (l : List ℕ) → lineLen l ≤ length l
 unfolding lineLen
@@ -220,13 +236,9 @@ cut-span (b ∷ bs) = go (eqb b 59) (cut-span bs)
     go true e = refl
     go false e = ap suc e
 
-keep-on : (b : ℕ) (bs : List ℕ) → eqb b 59 ≡ false → spanLen Kept (b ∷ bs) ≡ suc (spanLen Kept bs)
-unfolding spanLen
-keep-on b bs e = rw e
-
 -- from a place r of l up to which no `;` stands
 pub cut-past : {l : List ℕ} {at r : ℕ} → Skips l at 59 r → r + spanLen Kept (drop r l) ≡ at + length (cutOf (drop at l))
-cut-past {l} {at} s = skip-past 59 (spanLen Kept) keep-on s ∙ ap (at +_) (cut-span (drop at l))
+cut-past {l} {at} s = skip-past 59 Kept (λ x h. ap not h) s ∙ ap (at +_) (cut-span (drop at l))
 
 -- what is kept stands at the start
 pub cut-prefix : (l : List ℕ) → take (length (cutOf l)) l ≡ cutOf l

@@ -4,7 +4,7 @@ use native.Mathlib.Omega.{arith}
 use native.Mathlib.Nat.{zero-add, suc-add}
 use native.Mathlib.Numerals.{add-one}
 use borrow.Author.Tests.{eq-eqb, ne-eqb}
-use mathlib.Core.Path.{_≡_, refl, sym, _∙_}
+use mathlib.Core.Path.{_≡_, refl, sym, ap, _∙_}
 use mathlib.Core.Bool.{Bool, true, false, cond, _||_, false≢true}
 use mathlib.Core.List.{List, [], _∷_}
 use lib.ListN.{length, take, drop, getD, length-drop, drop-of-length-le}
@@ -96,19 +96,20 @@ module _ (b : ℕ) where
           none = rw (← n) (has-not (i - from) (e - i) (drop from l) (s .none) (rw left f));
         }
 
-  -- a length that is one more for each byte other than b
-  module _ (f : List ℕ → ℕ) (on : (x : ℕ) (xs : List ℕ) → eqb x b ≡ false → f (x ∷ xs) ≡ suc (f xs)) where
-    past : (n : ℕ) (l : List ℕ) → n ≤ length l → has b (take n l) ≡ false → f l ≡ n + f (drop n l)
-    unfolding has
+  -- the bytes of a kind that every byte but b is of
+  module _ (k : Kind) (on : (x : ℕ) → eqb x b ≡ false → isKind k x ≡ true) where
+    past : (n : ℕ) (l : List ℕ) → n ≤ length l → has b (take n l) ≡ false → spanLen k l ≡ n + spanLen k (drop n l)
+    unfolding has spanLen
     past zero l h e = rw zero-add
     past (suc n) [] h e = absurd (omega arith)
     past (suc n) (x ∷ l) h e = go (eqb x b) refl e (past n l (omega arith))
       where
-        go : (t : Bool) → eqb x b ≡ t → (t || has b (take n l)) ≡ false → (has b (take n l) ≡ false → f l ≡ n + f (drop n l)) → f (x ∷ l) ≡ suc n + f (drop n l)
-        go true q e k = absurd (false≢true (sym e))
-        go false q e k = omega (arith, on x l q, k e)
+        go : (t : Bool) → eqb x b ≡ t → (t || has b (take n l)) ≡ false → (has b (take n l) ≡ false → spanLen k l ≡ n + spanLen k (drop n l))
+            → cond (isKind k x) (suc (spanLen k l)) 0 ≡ suc n + spanLen k (drop n l)
+        go true q e f = absurd (false≢true (sym e))
+        go false q e f = rw (on x q, suc-add) (ap suc (f e))
 
-    pub skip-past : {l : List ℕ} {from r : ℕ} → Skips l from b r → r + f (drop r l) ≡ from + f (drop from l)
+    pub skip-past : {l : List ℕ} {from r : ℕ} → Skips l from b r → r + spanLen k (drop r l) ≡ from + spanLen k (drop from l)
     skip-past {l} {from} {r} s =
-        let p : f (drop from l) ≡ (r - from) + f (drop r l) = past (r - from) (drop from l) (s .inside) (s .none) ∙ rw (left r s) in
+        let p : spanLen k (drop from l) ≡ (r - from) + spanLen k (drop r l) = past (r - from) (drop from l) (s .inside) (s .none) ∙ rw (left r s) in
         omega (arith, p, s .after)

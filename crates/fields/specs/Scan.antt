@@ -8,13 +8,14 @@ use lib.ListN.{length, drop}
 use Rattle.fields.specs.Lines.{isSpace}
 use Rattle.fields.specs.Fields.{part}
 use Rattle.fields.specs.declared.Kind.{Kind}
-use Rattle.fields.specs.declared.Kind.the-variants.{Space, Word, Kept}
+use Rattle.fields.specs.declared.Kind.the-variants.{Space, Word, Kept, Line}
 
--- a byte of the kind: whitespace; any other; no `;`
+-- a byte of the kind: whitespace; any other; no `;`; no line feed
 abbrev pub isKind : Kind → ℕ → Bool
 isKind Space b = isSpace b
 isKind Word b = not (isSpace b)
 isKind Kept b = not (eqb b 59)
+isKind Line b = not (eqb b 10)
 
 -- how many bytes of the kind stand at the start
 unfoldable pub spanLen : Kind → List ℕ → ℕ

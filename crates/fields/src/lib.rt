@@ -28,11 +28,12 @@ pub fn is_space(b: u8) -> bool
     if let Class::Space = k { true } else { false }
 }
 
-// What the scan below passes over.
+// What the scan below passes over: whitespace; a field; what stands before a `;`; what stands before a line feed.
 enum Kind {
     Space,
     Word,
     Kept,
+    Line,
 }
 
 fn is_kind(k: Kind, b: u8) -> bool
@@ -42,6 +43,7 @@ fn is_kind(k: Kind, b: u8) -> bool
         Kind::Space => is_space(b),
         Kind::Word => !is_space(b),
         Kind::Kept => b != 59,
+        Kind::Line => b != 10,
     }
 }
 
@@ -115,14 +117,12 @@ fn skip_blocks(text: &[u8], from: usize, b: u8) -> usize
 pub fn line_end(text: &[u8], at: usize) -> usize
     ensures { λ r. ⌜ r ≡ at + lineLen (drop at (now (text .entry))) ⌝ }
 {
-    let mut i = skip_blocks(text, at, 10);
-    while i < text.len() {
-        if text[i] == 10 {
-            return i + 1;
-        }
-        i += 1;
+    let i = skip_blocks(text, at, 10);
+    let e = reach(text, i, Kind::Line);
+    if e < text.len() {
+        return e + 1;
     }
-    i
+    e
 }
 
 fn kind_by(b: u8) -> LineKind
