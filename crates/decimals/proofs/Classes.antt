@@ -55,3 +55,11 @@ unfolding classOf
 digit-range b e =
     let r = both (leb 48 b) (leb b 57) (pick ((leb 9 b && leb b 13) || eqb b 32) (leb 48 b && leb b 57) (eqb b 43 || eqb b 45) (eqb b 46) (eqb b 69 || eqb b 101) (to-digit (classOf b) e)) in
     (leb-true 48 b (r .0), leb-true b 57 (r .1))
+
+-- outside of it no byte is a digit
+pub no-digit : (b : ℕ) → ((48 ≤ b) × (b ≤ 57) → ⊥) → is Digit b ≡ false
+no-digit b n = go (is Digit b) refl
+  where
+    go : (x : Bool) → is Digit b ≡ x → is Digit b ≡ false
+    go true e = absurd (n (digit-range b e))
+    go false e = e

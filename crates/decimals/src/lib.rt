@@ -9,7 +9,7 @@ ghost use lib.Dec.{leb};
 ghost use lib.Ieee as Ieee;
 ghost use lib.Ieee.{binary64};
 ghost use Rattle.decimals.specs.Reach.{ten, signed, meaning};
-ghost use Rattle.decimals.specs.Bytes.{classOf, lower};
+ghost use Rattle.decimals.specs.Bytes.{classOf, is, lower};
 ghost use Rattle.decimals.specs.Digits.{digits, value};
 ghost use Rattle.decimals.specs.Numbers.{spells, power, exponent, ending, point, unsigned, outcome, numberOf, readingOf, AsRead};
 ghost use Rattle.decimals.specs.Cap.{cap};
@@ -125,6 +125,22 @@ pub fn class_of(b: u8) -> Class
     }
 }
 
+// Whether b is a digit. Most bytes of a number are, and the two comparisons are all that one costs: behind them the compiler drops the match.
+fn is_digit(b: u8) -> bool
+    ensures { λ r. ⌜ r ≡ is Class.Digit b ⌝ }
+{
+    if b < 48 {
+        return false;
+    }
+    if b > 57 {
+        return false;
+    }
+    match class_of(b) {
+        Class::Digit => true,
+        _ => false,
+    }
+}
+
 // A letter in lower case.
 fn lowered(b: u8) -> u8
     ensures { λ r. ⌜ r ≡ lower b ⌝ }
@@ -189,13 +205,10 @@ fn leading(s: &[u8], start: u64) -> Run
     let mut v = start;
     while i < s.len() {
         let b = s[i];
-        match class_of(b) {
-            Class::Digit => {
-                v = extended(v, b);
-            }
-            _ => {
-                return Run { len: i, value: v };
-            }
+        if is_digit(b) {
+            v = extended(v, b);
+        } else {
+            return Run { len: i, value: v };
         }
         i += 1;
     }
@@ -335,17 +348,14 @@ fn read_whole(s: &[u8]) -> Count
     let mut v = 0;
     while i < s.len() {
         let b = s[i];
-        match class_of(b) {
-            Class::Digit => {
-                let d = digit_value(b);
-                if v > (18446744073709551615 - d) / 10 {
-                    return Count::Uncounted;
-                }
-                v = v * 10 + d;
-            }
-            _ => {
+        if is_digit(b) {
+            let d = digit_value(b);
+            if v > (18446744073709551615 - d) / 10 {
                 return Count::Uncounted;
             }
+            v = v * 10 + d;
+        } else {
+            return Count::Uncounted;
         }
         i += 1;
     }

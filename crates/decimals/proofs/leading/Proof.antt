@@ -1,7 +1,7 @@
 -- `decimals::leading` meets its contract. Assumes nothing.
 use mathlib.Core.Path.{_≡_, refl, sym, ap, _∙_}
 use mathlib.Core.Bool.{true}
-use mathlib.Core.List.{List, [], _∷_}
+use mathlib.Core.List.{List, []}
 use Prim.Native.Nat.{ℕ, _≤_, _<_, _+_, _-_, _*_, min, zero-le}
 use native.Mathlib.Nat.{add-zero, zero-add}
 use native.Mathlib.Omega.{arith}
@@ -9,7 +9,7 @@ use lib.ListN.{length, drop, getD}
 use Rattle.decimals.specs.Bytes.{is}
 use Rattle.decimals.specs.Digits.{digits, value}
 use Rattle.decimals.specs.declared.Class.the-variants.{Digit}
-use Rattle.decimals.proofs.Classes.{is-class, not-class, digit-range}
+use Rattle.decimals.proofs.Classes.{digit-range}
 use Rattle.decimals.proofs.Digits.{digits-step, digits-stop, digits-end, value-nil, value-cons, capped}
 use Rattle.decimals.specs.Cap.{cap}
 use Rattle.decimals.proofs.leading.Statement.{statement}
@@ -52,19 +52,16 @@ loop-holds c = (zero-le, c .before .pre, zero-add _, refl)
 shared-slice-read-b : tie.Need-shared-slice-read-b Inv-loop μ-loop
 shared-slice-read-b c = omega arith
 
-class-of-requires : tie.Need-class-of-requires Inv-loop μ-loop
-class-of-requires c κs = tt
-
-enum-told : tie.Need-enum-told Inv-loop μ-loop
-enum-told c = c .match .keys1
+is-digit-requires : tie.Need-is-digit-requires Inv-loop μ-loop
+is-digit-requires c κs = tt
 
 extended-requires : tie.Need-extended-requires Inv-loop μ-loop
-extended-requires c κs = digit-range _ (is-class Digit _ (c .before .before .class-of .ensures) (c .enum-told .given .1))
+extended-requires c κs = digit-range _ (sym (c .before .is-digit .ensures) ∙ c .if1 .taken)
 
 returns : tie.Need-returns Inv-loop μ-loop
 returns c =
     let b = c .before .before .before .before in
-    stopped _ _ _ _ (b .loop .inv) (digits-stop _ (b .loop .i) (c .before .before .before .loop-test .taken) (not-class Digit _ _ (0 ∷ 2 ∷ 3 ∷ 4 ∷ 5 ∷ []) (c .before .class-of .ensures) (c .match .keys2) tt))
+    stopped _ _ _ _ (b .loop .inv) (digits-stop _ (b .loop .i) (c .before .before .before .loop-test .taken) (sym (c .before .is-digit .ensures) ∙ c .if1 .left))
 
 add-i : tie.Need-add-i Inv-loop μ-loop
 add-i c = omega arith
@@ -74,9 +71,9 @@ loop-less c = omega arith
 
 loop-again : tie.Need-loop-again Inv-loop μ-loop
 loop-again c =
-    let b = c .before .before .before .before .before .before in
-    let h = c .before .before .before .before .before .loop-test .taken in
-    again _ _ _ _ _ (b .loop .inv) h (is-class Digit _ (c .before .before .before .class-of .ensures) (c .before .enum-told .given .1)) (c .extended .ensures)
+    let b = c .before .before .before .before .before in
+    let h = c .before .before .before .before .loop-test .taken in
+    again _ _ _ _ _ (b .loop .inv) h (sym (c .before .before .is-digit .ensures) ∙ c .before .if1 .taken) (c .extended .ensures)
 
 returns-2 : tie.Need-returns-2 Inv-loop μ-loop
 returns-2 c = stopped _ _ _ _ (c .before .loop .inv) (digits-end _ (c .before .loop .i) (c .loop-test .left))
@@ -89,8 +86,7 @@ leading-spec =
     μ-loop
     loop-holds
     shared-slice-read-b
-    class-of-requires
-    enum-told
+    is-digit-requires
     extended-requires
     returns
     add-i

@@ -1,7 +1,7 @@
 -- `decimals::read_whole` meets its contract. Assumes nothing.
 use mathlib.Core.Path.{_≡_, sym, ap, _∙_}
 use mathlib.Core.Bool.{true}
-use mathlib.Core.List.{List, [], _∷_}
+use mathlib.Core.List.{List}
 use Prim.Native.Nat.{ℕ, _+_, _-_, _*_, _^_, _≤_, _<_, zero-le}
 use native.Mathlib.Omega.{arith}
 use lib.ListN.{length, drop, getD}
@@ -9,7 +9,7 @@ use Rattle.decimals.specs.declared.Class.the-variants.{Digit}
 use Rattle.decimals.specs.declared.Count.the-variants.{Uncounted}
 use Rattle.decimals.specs.Bytes.{is}
 use Rattle.decimals.specs.Counts.{whole}
-use Rattle.decimals.proofs.Classes.{is-class, not-class, digit-range}
+use Rattle.decimals.proofs.Classes.{digit-range}
 use Rattle.decimals.proofs.Counts.{from, from-more, from-other, from-over, from-end, whole-nil, whole-start}
 use Rattle.decimals.proofs.read_whole.Statement.{statement}
 use Rattle.decimals.proofs.read_whole.Tie as tie
@@ -42,35 +42,32 @@ loop-holds c = (zero-le, omega arith, whole-start (c .before .before .args .s .n
 shared-slice-read-b : tie.Need-shared-slice-read-b Inv-loop μ-loop
 shared-slice-read-b c = omega arith
 
-class-of-requires : tie.Need-class-of-requires Inv-loop μ-loop
-class-of-requires c κs = tt
-
-enum-told : tie.Need-enum-told Inv-loop μ-loop
-enum-told c = c .match .keys1
+is-digit-requires : tie.Need-is-digit-requires Inv-loop μ-loop
+is-digit-requires c κs = tt
 
 digit-value-requires : tie.Need-digit-value-requires Inv-loop μ-loop
-digit-value-requires c κs = digit-range _ (is-class Digit _ (c .before .before .class-of .ensures) (c .enum-told .given .1))
+digit-value-requires c κs = digit-range _ (sym (c .before .is-digit .ensures) ∙ c .if2 .taken)
 
-sub-if2 : tie.Need-sub-if2 Inv-loop μ-loop
-sub-if2 c = omega (arith, c .digit-value .ensures, digit-range _ (is-class Digit _ (c .before .before .before .class-of .ensures) (c .before .enum-told .given .1)))
+sub-if3 : tie.Need-sub-if3 Inv-loop μ-loop
+sub-if3 c = omega (arith, c .digit-value .ensures, digit-range _ (sym (c .before .before .is-digit .ensures) ∙ c .before .if2 .taken))
 
 returns-2 : tie.Need-returns-2 Inv-loop μ-loop
 returns-2 c =
-    let l = c .before .before .before .before .before .before .before in
-    let h = c .before .before .before .before .before .before .loop-test .taken in
-    let e = is-class Digit _ (c .before .before .before .before .class-of .ensures) (c .before .before .enum-told .given .1) in
-    over _ _ _ _ (l .loop .inv) h e (c .before .digit-value .ensures) (omega (arith, c .if2 .taken, c .before .digit-value .ensures, digit-le _ e))
+    let l = c .before .before .before .before .before .before in
+    let h = c .before .before .before .before .before .loop-test .taken in
+    let e = sym (c .before .before .before .is-digit .ensures) ∙ c .before .before .if2 .taken in
+    over _ _ _ _ (l .loop .inv) h e (c .before .digit-value .ensures) (omega (arith, c .if3 .taken, c .before .digit-value .ensures, digit-le _ e))
 
 mul-v : tie.Need-mul-v Inv-loop μ-loop
-mul-v c = omega (arith, c .if2 .left)
+mul-v c = omega (arith, c .if3 .left)
 
 add-v : tie.Need-add-v Inv-loop μ-loop
-add-v c = omega (arith, c .if2 .left, c .before .digit-value .ensures, digit-range _ (is-class Digit _ (c .before .before .before .before .class-of .ensures) (c .before .before .enum-told .given .1)))
+add-v c = omega (arith, c .if3 .left, c .before .digit-value .ensures, digit-range _ (sym (c .before .before .before .is-digit .ensures) ∙ c .before .before .if2 .taken))
 
 returns-3 : tie.Need-returns-3 Inv-loop μ-loop
 returns-3 c =
     let l = c .before .before .before .before in
-    sym (from-other _ (l .loop .i) _ (c .before .before .before .loop-test .taken) (not-class Digit _ _ (0 ∷ 2 ∷ 3 ∷ 4 ∷ 5 ∷ []) (c .before .class-of .ensures) (c .match .keys2) tt)) ∙ l .loop .inv .2
+    sym (from-other _ (l .loop .i) _ (c .before .before .before .loop-test .taken) (sym (c .before .is-digit .ensures) ∙ c .if2 .left)) ∙ l .loop .inv .2
 
 add-i : tie.Need-add-i Inv-loop μ-loop
 add-i c = omega arith
@@ -80,10 +77,10 @@ loop-less c = omega arith
 
 loop-again : tie.Need-loop-again Inv-loop μ-loop
 loop-again c =
-    let l = c .before .before .before .before .before .before .before in
-    let h = c .before .before .before .before .before .before .loop-test .taken in
-    let e = is-class Digit _ (c .before .before .before .before .class-of .ensures) (c .before .before .enum-told .given .1) in
-    again _ _ _ _ (l .loop .inv) h e (c .before .digit-value .ensures) (omega (arith, c .if2 .left, c .before .digit-value .ensures, digit-le _ e))
+    let l = c .before .before .before .before .before .before in
+    let h = c .before .before .before .before .before .loop-test .taken in
+    let e = sym (c .before .before .before .is-digit .ensures) ∙ c .before .before .if2 .taken in
+    again _ _ _ _ (l .loop .inv) h e (c .before .digit-value .ensures) (omega (arith, c .if3 .left, c .before .digit-value .ensures, digit-le _ e))
 
 returns-4 : tie.Need-returns-4 Inv-loop μ-loop
 returns-4 c = sym (from-end _ (c .before .loop .i) _ (c .loop-test .left) (c .before .loop .inv .1)) ∙ c .before .loop .inv .2
@@ -97,10 +94,9 @@ read-whole-spec =
     returns
     loop-holds
     shared-slice-read-b
-    class-of-requires
-    enum-told
+    is-digit-requires
     digit-value-requires
-    sub-if2
+    sub-if3
     returns-2
     mul-v
     add-v
