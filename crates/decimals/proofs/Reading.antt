@@ -19,6 +19,7 @@ use Rattle.decimals.specs.Digits.{digits, after, value, empty}
 use Rattle.decimals.specs.Numbers.{Reading, malformed, decimal, power, exponent, ending, point, outcome, unsigned, numberOf, spells, wordInf, wordInfinity, wordNan}
 use Rattle.decimals.proofs.Meaning.{meaning-cap-w}
 use Rattle.decimals.proofs.Digits.{capped}
+use Rattle.decimals.proofs.Words.{digits-no-word}
 
 -- ---- lists
 pub tail-of : (s : List ℕ) (n : ℕ) → take (length s - n) (drop n s) ≡ drop n s
@@ -198,6 +199,10 @@ module _ (minus : Bool) (s : List ℕ) where
     pub unsigned-digits : spells s wordNan ≡ false → unsigned minus s ≡ point minus (value 0 (digits s)) (length (digits s)) (after s)
     unfolding unsigned
     unsigned-digits e = simp (a, b, e)
+
+  -- where it begins with a digit
+  pub unsigned-begun : (length (digits s) ≡ 0 → ⊥) → unsigned minus s ≡ point minus (value 0 (digits s)) (length (digits s)) (after s)
+  unsigned-begun n = unsigned-digits (digits-no-word s 105 _ (omega arith) n) (digits-no-word s 105 _ (omega arith) n) (digits-no-word s 110 _ (omega arith) n)
 
 pub after-is : (s : List ℕ) (n : ℕ) → n ≡ length (digits s) → take (length s - n) (drop n s) ≡ after s
 unfolding after

@@ -4,12 +4,17 @@ use mathlib.Core.Bool.{Bool, true, false, _&&_}
 use mathlib.Core.List.{List, [], _∷_}
 use Prim.Native.Nat.{ℕ, suc, _+_, _≤_, _<_}
 use native.Mathlib.Numerals.{add-one}
+use native.Mathlib.Omega.{arith}
 use lib.ListN.{length, drop, getD, drop-of-length-le}
 use lib.Seq.{drop-cons}
 use lib.Dec.{eqb}
-use borrow.Author.Tests.{eq-eqb, ne-eqb}
-use Rattle.decimals.specs.Bytes.{lower}
+use borrow.Author.Tests.{eq-eqb, ne-eqb, lt-leb}
+use Rattle.decimals.specs.declared.Class.the-variants.{Digit}
+use Rattle.decimals.specs.Bytes.{is, lower}
+use Rattle.decimals.specs.Digits.{digits}
 use Rattle.decimals.specs.Numbers.{spells}
+use Rattle.decimals.proofs.Classes.{digit-range}
+use Rattle.decimals.proofs.Digits.{digits-no}
 
 and-false : (x y : Bool) → y ≡ false → x && y ≡ false
 and-false true y e = e
@@ -39,3 +44,18 @@ module _ (s w : List ℕ) (i : ℕ) where
   pub spells-end : length s ≤ i → length w ≤ i → spells (drop i s) (drop i w) ≡ true
   unfolding spells
   spells-end h k = rw (drop-of-length-le s h, drop-of-length-le w k)
+
+-- a text that begins with a digit is no word that begins with a letter
+digit-differs : (b a : ℕ) → 57 < a → is Digit b ≡ true → eqb (lower b) a ≡ false
+digit-differs b a h e =
+    let r = digit-range b e in
+    simp (lt-leb 65 b (omega arith)) (ne-eqb b a (λ q. omega arith))
+
+pub digits-no-word : (s : List ℕ) (a : ℕ) (w : List ℕ) → 57 < a → (length (digits s) ≡ 0 → ⊥) → spells s (a ∷ w) ≡ false
+unfolding spells
+digits-no-word [] a w h n = refl
+digits-no-word (b ∷ t) a w h n = go (is Digit b) refl
+  where
+    go : (x : Bool) → is Digit b ≡ x → spells (b ∷ t) (a ∷ w) ≡ false
+    go true e = simp (digit-differs b a h e)
+    go false e = absurd (n (ap length (digits-no b t e)))

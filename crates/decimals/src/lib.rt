@@ -301,18 +301,21 @@ fn read_point(minus: bool, w: u64, count: usize, s: &[u8]) -> Number
 fn read_unsigned(minus: bool, s: &[u8]) -> Number
     ensures { λ r. ⌜ r ≡ outcome (unsigned minus (now (s .entry))) ⌝ }
 {
-    if is_word(s, b"inf") {
-        return Number::Value(with_sign(minus, 1.0 / 0.0));
-    }
-    if is_word(s, b"infinity") {
-        return Number::Value(with_sign(minus, 1.0 / 0.0));
-    }
-    if is_word(s, b"nan") {
-        return Number::Value(0.0 / 0.0);
-    }
     let d = leading(s, 0);
     let n = d.len;
     let v = d.value;
+    // A text that begins with a digit is none of the three words.
+    if n == 0 {
+        if is_word(s, b"inf") {
+            return Number::Value(with_sign(minus, 1.0 / 0.0));
+        }
+        if is_word(s, b"infinity") {
+            return Number::Value(with_sign(minus, 1.0 / 0.0));
+        }
+        if is_word(s, b"nan") {
+            return Number::Value(0.0 / 0.0);
+        }
+    }
     read_point(minus, v, n, &s[n..])
 }
 
