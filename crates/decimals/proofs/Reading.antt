@@ -219,6 +219,13 @@ point-law minus w count s t v n e en ev h p =
     ∙ ap (λ (l : List ℕ). outcome (ending minus (value w (digits l)) (count + length (digits l)) (length (digits l)) (after l))) e
     ∙ ap outcome (sym (point-yes minus w count s h p))
 
+-- where the digits after the point are all that is left
+pub point-only : (minus : Bool) (w count : ℕ) (s t : List ℕ) (v n : ℕ) → t ≡ drop 1 s → n ≡ length (digits t) → v ≡ min (value w (digits t)) cap → 0 < length s → is Point (getD s 0 0) ≡ true → 0 < n → n ≡ length t
+    → meaning minus v 0 n ≡ outcome (point minus w count s)
+point-only minus w count s t v n e en ev h p some all =
+    let none : length (take (length t - n) (drop n t)) ≡ 0 = omega (arith, ap length (tail-of t n), length-drop n t) in
+    ap outcome (sym (ending-nil minus v (count + n) n (λ q. omega arith) _ none)) ∙ point-law minus w count s t v n e en ev h p
+
 -- the cap on the digits before the point
 point-cap : (minus : Bool) (w count : ℕ) (s : List ℕ) → outcome (point minus (min w cap) count s) ≡ outcome (point minus w count s)
 unfolding point

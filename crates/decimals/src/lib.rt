@@ -291,6 +291,11 @@ fn read_point(minus: bool, w: u64, count: usize, s: &[u8]) -> Number
             let d = leading(t, w);
             let n = d.len;
             let v = d.value;
+            if n > 0 {
+                if n == t.len() {
+                    return valued(minus, v, 0, n);
+                }
+            }
             read_ending(minus, v, count + n, n, &t[n..])
         }
         _ => read_ending(minus, w, count, 0, s),

@@ -1,14 +1,16 @@
 -- `decimals::read_point` meets its contract. Assumes nothing.
 use mathlib.Core.Path.{_≡_, sym, ap, _∙_}
+use mathlib.Core.Bool.{true}
 use mathlib.Core.List.{List, [], _∷_}
-use Prim.Native.Nat.{ℕ, _-_, _<_, _≤_}
+use Prim.Native.Nat.{ℕ, _-_, _^_, _<_, _≤_}
 use native.Mathlib.Omega.{arith}
-use lib.ListN.{length, take, drop, length-drop}
+use lib.ListN.{length, take, drop, getD, length-drop}
 use Rattle.decimals.specs.declared.Class.the-variants.{Point}
+use Rattle.decimals.specs.Bytes.{is}
 use Rattle.decimals.specs.Digits.{digits}
 use Rattle.decimals.specs.Numbers.{outcome}
 use Rattle.decimals.proofs.Classes.{is-class, not-class}
-use Rattle.decimals.proofs.Reading.{tail-of, digits-le, point-nil, point-no, point-law}
+use Rattle.decimals.proofs.Reading.{tail-of, digits-le, point-nil, point-no, point-law, point-only}
 use borrow.Author.Needs.{needs}
 use Rattle.decimals.proofs.read_point.Statement.{statement}
 use Rattle.decimals.proofs.read_point.Tie as tie
@@ -46,36 +48,58 @@ part-t-end c = search needs
 leading-requires : tie.Need-leading-requires
 leading-requires c κs = search needs
 
+-- after the digits behind the point
+abbrev start : tie.After-leading → tie.Start
+start c = c .before .before .before .before .before .before .before .before
+
+some-left : (c : tie.After-leading) → 0 < length (start c .args .s .now)
+some-left c = omega (arith, c .before .before .before .before .before .before .if1 .left)
+
+point-there : (c : tie.After-leading) → is Point (getD (start c .args .s .now) 0 0) ≡ true
+point-there c = is-class Point _ (c .before .before .before .before .class-of .ensures) (c .before .before .enum-told .given .1)
+
+few : (c : tie.After-leading) → c .leading .result .len < 2 ^ 63
+few c = omega (arith, start c .good .1 .1 .1 .0 .1, part-le (start c .args .s .now) (c .leading .result .len) (c .leading .ensures .0))
+
+valued-requires : tie.Need-valued-requires
+valued-requires c κs = search needs
+
+returns-2 : tie.Need-returns-2
+returns-2 c =
+    let d = c .before .before .before in
+    let a = start d .args in
+    let s : List ℕ = a .s .now in
+    c .valued .ensures
+    ∙ point-only (a .minus) (a .w) (a .count) s (take (length s - 1) (drop 1 s)) _ _ (tail-of s 1) (d .leading .ensures .0) (d .leading .ensures .1) (some-left d) (point-there d) (c .before .before .if2 .taken) (c .before .if3 .taken)
+
 add-read-ending : tie.Need-add-read-ending
-add-read-ending c = omega (arith, c .before .before .before .before .before .before .before .before .pre .1, c .before .before .before .before .before .before .before .before .good .1 .1 .1 .0 .1, part-le (c .before .before .before .before .before .before .before .before .args .s .now) (c .leading .result .len) (c .leading .ensures .0))
+add-read-ending c = omega (arith, start (c .before) .pre .1, few (c .before))
 
 sub-read-ending : tie.Need-sub-read-ending
-sub-read-ending c = fits-part _ _ (c .leading .ensures .0)
+sub-read-ending c = fits-part _ _ (c .before .leading .ensures .0)
 
 part-read-ending-start : tie.Need-part-read-ending-start
-part-read-ending-start c = fits-part _ _ (c .leading .ensures .0)
+part-read-ending-start c = fits-part _ _ (c .before .leading .ensures .0)
 
 part-read-ending-end : tie.Need-part-read-ending-end
 part-read-ending-end c = search needs
 
 read-ending-requires-2 : tie.Need-read-ending-requires-2
-read-ending-requires-2 c κs = omega (arith, c .before .before .before .before .before .before .before .before .before .good .1 .1 .1 .0 .1, part-le (c .before .before .before .before .before .before .before .before .before .args .s .now) (c .before .leading .result .len) (c .before .leading .ensures .0))
+read-ending-requires-2 c κs = few (c .before .before)
 
 read-ending-requires-3 : tie.Need-read-ending-requires-3
 read-ending-requires-3 c κs = search needs
 
-returns-2 : tie.Need-returns-2
-returns-2 c =
-    let e = c .before .before .before .before .before .before .before .before in
-    let a = e .before .before .args in
-    let s : List ℕ = a .s .now in
-    let h : 0 < length s = omega (arith, e .if1 .left) in
-    let l = c .before .before .leading .ensures in
-    c .read-ending2 .ensures
-    ∙ point-law (a .minus) (a .w) (a .count) s (take (length s - 1) (drop 1 s)) _ _ (tail-of s 1) (l .0) (l .1) h (is-class Point _ (c .before .before .before .before .before .before .class-of .ensures) (c .before .before .before .before .enum-told .given .1))
-
 returns-3 : tie.Need-returns-3
 returns-3 c =
+    let d = c .before .before .before in
+    let a = start d .args in
+    let s : List ℕ = a .s .now in
+    c .read-ending2 .ensures
+    ∙ point-law (a .minus) (a .w) (a .count) s (take (length s - 1) (drop 1 s)) _ _ (tail-of s 1) (d .leading .ensures .0) (d .leading .ensures .1) (some-left d) (point-there d)
+
+returns-4 : tie.Need-returns-4
+returns-4 c =
     let e = c .before .before .before .before in
     let a = e .before .before .args in
     let s : List ℕ = a .s .now in
@@ -96,11 +120,13 @@ read-point-spec =
     part-t-start
     part-t-end
     leading-requires
+    valued-requires
+    returns-2
     add-read-ending
     sub-read-ending
     part-read-ending-start
     part-read-ending-end
     read-ending-requires-2
     read-ending-requires-3
-    returns-2
-    returns-3)
+    returns-3
+    returns-4)
