@@ -1,32 +1,56 @@
 -- The room of a survey's tables, and the ways through `read_survey`. Assumes nothing.
 use Prim.Native.Nat.{ℕ, _≤_}
+use native.Mathlib.Omega.{arith}
 use borrow.Author.Tests.{ltb-false}
 use mathlib.Core.Path.{_≡_, refl, sym, ap, _∙_}
 use mathlib.Core.Bool.{Bool, true, false, _||_}
 use mathlib.Core.List.{List, _++_}
-use lib.ListN.{length, drop}
+use lib.ListN.{length, take, drop}
+use lib.Seq.{length-take-le}
 use lib.Dec.{ltb}
 use lib.Ieee.{Float}
 use Rattle.lines.specs.Tables.{codeOf, reasonIn, marksIn}
 use Rattle.scope.specs.declared.Counts.{Counts}
 use Rattle.scope.specs.declared.Survey.{Survey}
 use Rattle.scope.specs.Sections.{roomLines}
-use Rattle.scope.specs.Tables.{recordWords, roomNumbers, tallyWords}
+use Rattle.scope.specs.Tables.{recordWords, roomWords, roomNumbers, tallyWords}
 use Rattle.scope.specs.Reading.{byText, noSurvey, surveyOf, surveyNetwork, surveyMarked, tooSmall, surveySmall, surveyAnswer, surveyWords, surveyNumbers, surveyClasses, surveyReasons}
 use Rattle.tables.specs.Table.{splice}
 use Rattle.tables.specs.Holding.{Holds}
 use Rattle.stored.specs.Back.{Stands}
-use Rattle.reading.proofs.RoomLaws.{words-left, numbers-left, stands-left}
+use Rattle.reading.proofs.RoomLaws.{room, back-long, words-left, numbers-left, stands-left}
 use Rattle.steps.proofs.StepLaws.{never}
 
-pub survey-room : (w f c r : ℕ) → surveySmall w f c r ≡ false → (tooSmall w f ≡ false) × (roomLines ≤ c) × (roomLines ≤ r)
+-- ---- room
+survey-room : (w f c r : ℕ) → surveySmall w f c r ≡ false → (roomWords ≤ w) × (roomNumbers ≤ f) × (roomLines ≤ c) × (roomLines ≤ r)
 unfolding surveySmall
-survey-room w f c r z = let p = go (tooSmall w f) (ltb c roomLines) (ltb r roomLines) z in (p .0, ltb-false c roomLines (p .1), ltb-false r roomLines (p .2))
+survey-room w f c r z =
+    let p = go (tooSmall w f) (ltb c roomLines) (ltb r roomLines) z in
+    let q = room w f (p .0) in (q .0, q .1, ltb-false c roomLines (p .1), ltb-false r roomLines (p .2))
   where
     go : (x y v : Bool) → x || y || v ≡ false → (x ≡ false) × (y ≡ false) × (v ≡ false)
     go true y v e = never (sym e)
     go false true v e = never (sym e)
     go false false v e = (refl, refl, e)
+
+module _ (w : List ℕ) (f : List Float) (c r : List ℕ) (z : surveySmall (length w) (length f) (length c) (length r) ≡ false) where
+  has-room : (roomWords ≤ length w) × (roomNumbers ≤ length f) × (roomLines ≤ length c) × (roomLines ≤ length r)
+  has-room = survey-room (length w) (length f) (length c) (length r) z
+
+  -- each table can be cut to its room
+  pub reaches : (recordWords ≤ length w) × (roomNumbers ≤ length f) × (roomLines ≤ length c) × (roomLines ≤ length r)
+  reaches = let q = has-room in (omega (arith, q .0), q .1, q .2, q .3)
+
+  -- ..and is then just as long. The proof of `read_survey` asks here: a `length-take-le` of its own, at 65,536, costs its check half a gigabyte.
+  pub cut-long : (length (take recordWords w) ≡ recordWords) × (length (take roomNumbers f) ≡ roomNumbers) × (length (take roomLines c) ≡ roomLines) × (length (take roomLines r) ≡ roomLines)
+  cut-long = let q = reaches in (length-take-le recordWords w (q .0), length-take-le roomNumbers f (q .1), length-take-le roomLines c (q .2), length-take-le roomLines r (q .3))
+
+  -- the words, once their part x is back
+  pub words-long : (x : List ℕ) → length x ≡ recordWords → length (x ++ drop recordWords w) ≡ length w
+  words-long x e = back-long x w recordWords e (reaches .0)
+
+  pub counts-fit : (x : List ℕ) → length x ≡ recordWords → roomWords ≤ length (x ++ drop recordWords w)
+  counts-fit x e = omega (arith, has-room .0, words-long x e)
 
 -- ---- the ways through `read_survey`
 module _ (text w : List ℕ) (f : List Float) (c r : List ℕ) where

@@ -1,12 +1,7 @@
-use Prim.Native.Nat.{ℕ, _≤_}
-use native.Mathlib.Omega.{arith}
 use denote.Ref.{now}
 use mathlib.Core.Path.{sym, _∙_, refl}
-use lib.ListN.{length}
-use lib.Seq.{length-take-le}
-use Rattle.tables.proofs.AfterLaws.{holds-words, holds-numbers}
-use Rattle.reading.proofs.RoomLaws.{room, back-long}
-use Rattle.surveying.proofs.RoomLaws.{survey-room, survey-small, survey-read}
+use Rattle.tables.proofs.AfterLaws.{holds-words}
+use Rattle.surveying.proofs.RoomLaws.{reaches, cut-long, words-long, counts-fit, survey-small, survey-read}
 use borrow.Author.Needs.{needs}
 use Rattle.surveying.proofs.read_survey.Statement.{statement}
 use Rattle.surveying.proofs.read_survey.Tie as tie
@@ -39,76 +34,46 @@ returns : tie.Need-returns
 returns c = survey-small (now (c .before .before .before .before .before .before .before .before .before .before .before .before .args .text)) (now (c .before .before .before .before .before .before .before .before .before .before .before .before .args .words)) (now (c .before .before .before .before .before .before .before .before .before .before .before .before .args .numbers)) (now (c .before .before .before .before .before .before .before .before .before .before .before .before .args .classes)) (now (c .before .before .before .before .before .before .before .before .before .before .before .before .args .reasons)) (sym (c .before .before .survey-small .ensures) ∙ c .before .if1 .taken) (c .no-survey .ensures)
 
 slice-relend-prefix-survey-in : tie.Need-slice-relend-prefix-survey-in
-slice-relend-prefix-survey-in c =
-    let q = survey-room (length (now (c .before .before .before .before .before .before .before .before .before .before .before .args .words))) (length (now (c .before .before .before .before .before .before .before .before .before .before .before .args .numbers))) (length (now (c .before .before .before .before .before .before .before .before .before .before .before .args .classes))) (length (now (c .before .before .before .before .before .before .before .before .before .before .before .args .reasons))) (sym (c .before .survey-small .ensures) ∙ c .if1 .left) in
-    let r = room (length (now (c .before .before .before .before .before .before .before .before .before .before .before .args .words))) (length (now (c .before .before .before .before .before .before .before .before .before .before .before .args .numbers))) (q .0) in
-    omega (arith, r .0)
+slice-relend-prefix-survey-in c = (reaches (now (c .before .before .before .before .before .before .before .before .before .before .before .args .words)) (now (c .before .before .before .before .before .before .before .before .before .before .before .args .numbers)) (now (c .before .before .before .before .before .before .before .before .before .before .before .args .classes)) (now (c .before .before .before .before .before .before .before .before .before .before .before .args .reasons)) (sym (c .before .survey-small .ensures) ∙ c .if1 .left)) .0
 
 slice-aggregate-survey-in : tie.Need-slice-aggregate-survey-in
-slice-aggregate-survey-in c =
-    let q = survey-room (length (now (c .before .before .before .before .before .before .before .before .before .before .before .before .args .words))) (length (now (c .before .before .before .before .before .before .before .before .before .before .before .before .args .numbers))) (length (now (c .before .before .before .before .before .before .before .before .before .before .before .before .args .classes))) (length (now (c .before .before .before .before .before .before .before .before .before .before .before .before .args .reasons))) (sym (c .before .before .survey-small .ensures) ∙ c .before .if1 .left) in
-    let r = room (length (now (c .before .before .before .before .before .before .before .before .before .before .before .before .args .words))) (length (now (c .before .before .before .before .before .before .before .before .before .before .before .before .args .numbers))) (q .0) in
-    sym (length-take-le 14412 (now (c .before .before .before .before .before .before .before .before .before .before .before .before .args .words)) (omega (arith, r .0)))
+slice-aggregate-survey-in c = sym ((cut-long (now (c .before .before .before .before .before .before .before .before .before .before .before .before .args .words)) (now (c .before .before .before .before .before .before .before .before .before .before .before .before .args .numbers)) (now (c .before .before .before .before .before .before .before .before .before .before .before .before .args .classes)) (now (c .before .before .before .before .before .before .before .before .before .before .before .before .args .reasons)) (sym (c .before .before .survey-small .ensures) ∙ c .before .if1 .left)) .0)
 
 slice-relend-prefix-survey-in-2 : tie.Need-slice-relend-prefix-survey-in-2
-slice-relend-prefix-survey-in-2 c =
-    let q = survey-room (length (now (c .before .before .before .before .before .before .before .before .before .before .before .before .args .words))) (length (now (c .before .before .before .before .before .before .before .before .before .before .before .before .args .numbers))) (length (now (c .before .before .before .before .before .before .before .before .before .before .before .before .args .classes))) (length (now (c .before .before .before .before .before .before .before .before .before .before .before .before .args .reasons))) (sym (c .before .before .survey-small .ensures) ∙ c .before .if1 .left) in
-    let r = room (length (now (c .before .before .before .before .before .before .before .before .before .before .before .before .args .words))) (length (now (c .before .before .before .before .before .before .before .before .before .before .before .before .args .numbers))) (q .0) in
-    r .1
+slice-relend-prefix-survey-in-2 c = (reaches (now (c .before .before .before .before .before .before .before .before .before .before .before .before .args .words)) (now (c .before .before .before .before .before .before .before .before .before .before .before .before .args .numbers)) (now (c .before .before .before .before .before .before .before .before .before .before .before .before .args .classes)) (now (c .before .before .before .before .before .before .before .before .before .before .before .before .args .reasons)) (sym (c .before .before .survey-small .ensures) ∙ c .before .if1 .left)) .1
 
 slice-aggregate-survey-in-2 : tie.Need-slice-aggregate-survey-in-2
-slice-aggregate-survey-in-2 c =
-    let q = survey-room (length (now (c .before .before .before .before .before .before .before .before .before .before .before .before .before .args .words))) (length (now (c .before .before .before .before .before .before .before .before .before .before .before .before .before .args .numbers))) (length (now (c .before .before .before .before .before .before .before .before .before .before .before .before .before .args .classes))) (length (now (c .before .before .before .before .before .before .before .before .before .before .before .before .before .args .reasons))) (sym (c .before .before .before .survey-small .ensures) ∙ c .before .before .if1 .left) in
-    let r = room (length (now (c .before .before .before .before .before .before .before .before .before .before .before .before .before .args .words))) (length (now (c .before .before .before .before .before .before .before .before .before .before .before .before .before .args .numbers))) (q .0) in
-    sym (length-take-le 8192 (now (c .before .before .before .before .before .before .before .before .before .before .before .before .before .args .numbers)) (r .1))
+slice-aggregate-survey-in-2 c = sym ((cut-long (now (c .before .before .before .before .before .before .before .before .before .before .before .before .before .args .words)) (now (c .before .before .before .before .before .before .before .before .before .before .before .before .before .args .numbers)) (now (c .before .before .before .before .before .before .before .before .before .before .before .before .before .args .classes)) (now (c .before .before .before .before .before .before .before .before .before .before .before .before .before .args .reasons)) (sym (c .before .before .before .survey-small .ensures) ∙ c .before .before .if1 .left)) .1)
 
 slice-relend-prefix-survey-in-3 : tie.Need-slice-relend-prefix-survey-in-3
-slice-relend-prefix-survey-in-3 c = (survey-room (length (now (c .before .before .before .before .before .before .before .before .before .before .before .before .before .args .words))) (length (now (c .before .before .before .before .before .before .before .before .before .before .before .before .before .args .numbers))) (length (now (c .before .before .before .before .before .before .before .before .before .before .before .before .before .args .classes))) (length (now (c .before .before .before .before .before .before .before .before .before .before .before .before .before .args .reasons))) (sym (c .before .before .before .survey-small .ensures) ∙ c .before .before .if1 .left)) .1
+slice-relend-prefix-survey-in-3 c = (reaches (now (c .before .before .before .before .before .before .before .before .before .before .before .before .before .args .words)) (now (c .before .before .before .before .before .before .before .before .before .before .before .before .before .args .numbers)) (now (c .before .before .before .before .before .before .before .before .before .before .before .before .before .args .classes)) (now (c .before .before .before .before .before .before .before .before .before .before .before .before .before .args .reasons)) (sym (c .before .before .before .survey-small .ensures) ∙ c .before .before .if1 .left)) .2
 
 slice-aggregate-survey-in-3 : tie.Need-slice-aggregate-survey-in-3
-slice-aggregate-survey-in-3 c = sym (length-take-le 65536 (now (c .before .before .before .before .before .before .before .before .before .before .before .before .before .before .args .classes)) ((survey-room (length (now (c .before .before .before .before .before .before .before .before .before .before .before .before .before .before .args .words))) (length (now (c .before .before .before .before .before .before .before .before .before .before .before .before .before .before .args .numbers))) (length (now (c .before .before .before .before .before .before .before .before .before .before .before .before .before .before .args .classes))) (length (now (c .before .before .before .before .before .before .before .before .before .before .before .before .before .before .args .reasons))) (sym (c .before .before .before .before .survey-small .ensures) ∙ c .before .before .before .if1 .left)) .1))
+slice-aggregate-survey-in-3 c = sym ((cut-long (now (c .before .before .before .before .before .before .before .before .before .before .before .before .before .before .args .words)) (now (c .before .before .before .before .before .before .before .before .before .before .before .before .before .before .args .numbers)) (now (c .before .before .before .before .before .before .before .before .before .before .before .before .before .before .args .classes)) (now (c .before .before .before .before .before .before .before .before .before .before .before .before .before .before .args .reasons)) (sym (c .before .before .before .before .survey-small .ensures) ∙ c .before .before .before .if1 .left)) .2)
 
 slice-relend-prefix-survey-in-4 : tie.Need-slice-relend-prefix-survey-in-4
-slice-relend-prefix-survey-in-4 c = (survey-room (length (now (c .before .before .before .before .before .before .before .before .before .before .before .before .before .before .args .words))) (length (now (c .before .before .before .before .before .before .before .before .before .before .before .before .before .before .args .numbers))) (length (now (c .before .before .before .before .before .before .before .before .before .before .before .before .before .before .args .classes))) (length (now (c .before .before .before .before .before .before .before .before .before .before .before .before .before .before .args .reasons))) (sym (c .before .before .before .before .survey-small .ensures) ∙ c .before .before .before .if1 .left)) .2
+slice-relend-prefix-survey-in-4 c = (reaches (now (c .before .before .before .before .before .before .before .before .before .before .before .before .before .before .args .words)) (now (c .before .before .before .before .before .before .before .before .before .before .before .before .before .before .args .numbers)) (now (c .before .before .before .before .before .before .before .before .before .before .before .before .before .before .args .classes)) (now (c .before .before .before .before .before .before .before .before .before .before .before .before .before .before .args .reasons)) (sym (c .before .before .before .before .survey-small .ensures) ∙ c .before .before .before .if1 .left)) .3
 
 slice-aggregate-survey-in-4 : tie.Need-slice-aggregate-survey-in-4
-slice-aggregate-survey-in-4 c = sym (length-take-le 65536 (now (c .before .before .before .before .before .before .before .before .before .before .before .before .before .before .before .args .reasons)) ((survey-room (length (now (c .before .before .before .before .before .before .before .before .before .before .before .before .before .before .before .args .words))) (length (now (c .before .before .before .before .before .before .before .before .before .before .before .before .before .before .before .args .numbers))) (length (now (c .before .before .before .before .before .before .before .before .before .before .before .before .before .before .before .args .classes))) (length (now (c .before .before .before .before .before .before .before .before .before .before .before .before .before .before .before .args .reasons))) (sym (c .before .before .before .before .before .survey-small .ensures) ∙ c .before .before .before .before .if1 .left)) .2))
+slice-aggregate-survey-in-4 c = sym ((cut-long (now (c .before .before .before .before .before .before .before .before .before .before .before .before .before .before .before .args .words)) (now (c .before .before .before .before .before .before .before .before .before .before .before .before .before .before .before .args .numbers)) (now (c .before .before .before .before .before .before .before .before .before .before .before .before .before .before .before .args .classes)) (now (c .before .before .before .before .before .before .before .before .before .before .before .before .before .before .before .args .reasons)) (sym (c .before .before .before .before .before .survey-small .ensures) ∙ c .before .before .before .before .if1 .left)) .3)
 
 survey-in-requires : tie.Need-survey-in-requires
-survey-in-requires c κs =
-    let q = survey-room (length (now (c .before .before .before .before .before .before .before .before .before .before .before .before .before .before .before .args .words))) (length (now (c .before .before .before .before .before .before .before .before .before .before .before .before .before .before .before .args .numbers))) (length (now (c .before .before .before .before .before .before .before .before .before .before .before .before .before .before .before .args .classes))) (length (now (c .before .before .before .before .before .before .before .before .before .before .before .before .before .before .before .args .reasons))) (sym (c .before .before .before .before .before .survey-small .ensures) ∙ c .before .before .before .before .if1 .left) in
-    let r = room (length (now (c .before .before .before .before .before .before .before .before .before .before .before .before .before .before .before .args .words))) (length (now (c .before .before .before .before .before .before .before .before .before .before .before .before .before .before .before .args .numbers))) (q .0) in
-    (length-take-le 14412 (now (c .before .before .before .before .before .before .before .before .before .before .before .before .before .before .before .args .words)) (omega (arith, r .0)), length-take-le 8192 (now (c .before .before .before .before .before .before .before .before .before .before .before .before .before .before .before .args .numbers)) (r .1), length-take-le 65536 (now (c .before .before .before .before .before .before .before .before .before .before .before .before .before .before .before .args .classes)) (q .1), length-take-le 65536 (now (c .before .before .before .before .before .before .before .before .before .before .before .before .before .before .before .args .reasons)) (q .2))
+survey-in-requires c κs = cut-long (now (c .before .before .before .before .before .before .before .before .before .before .before .before .before .before .before .args .words)) (now (c .before .before .before .before .before .before .before .before .before .before .before .before .before .before .before .args .numbers)) (now (c .before .before .before .before .before .before .before .before .before .before .before .before .before .before .before .args .classes)) (now (c .before .before .before .before .before .before .before .before .before .before .before .before .before .before .before .args .reasons)) (sym (c .before .before .before .before .before .survey-small .ensures) ∙ c .before .before .before .before .if1 .left)
 
 write-counts-requires : tie.Need-write-counts-requires
-write-counts-requires c κs =
-    let q = survey-room (length (now (c .before .before .before .before .before .before .before .before .before .before .before .before .before .before .before .before .before .before .before .before .before .before .before .before .before .before .args .words))) (length (now (c .before .before .before .before .before .before .before .before .before .before .before .before .before .before .before .before .before .before .before .before .before .before .before .before .before .before .args .numbers))) (length (now (c .before .before .before .before .before .before .before .before .before .before .before .before .before .before .before .before .before .before .before .before .before .before .before .before .before .before .args .classes))) (length (now (c .before .before .before .before .before .before .before .before .before .before .before .before .before .before .before .before .before .before .before .before .before .before .before .before .before .before .args .reasons))) (sym (c .before .before .before .before .before .before .before .before .before .before .before .before .before .before .before .before .survey-small .ensures) ∙ c .before .before .before .before .before .before .before .before .before .before .before .before .before .before .before .if1 .left) in
-    let r = room (length (now (c .before .before .before .before .before .before .before .before .before .before .before .before .before .before .before .before .before .before .before .before .before .before .before .before .before .before .args .words))) (length (now (c .before .before .before .before .before .before .before .before .before .before .before .before .before .before .before .before .before .before .before .before .before .before .before .before .before .before .args .numbers))) (q .0) in
-    let h : 14412 ≤ length (now (c .before .before .before .before .before .before .before .before .before .before .before .before .before .before .before .before .before .before .before .before .before .before .before .before .before .before .args .words)) = omega (arith, r .0) in
-    omega (arith, r .0, back-long (c .before .before .before .before .before .before .before .before .before .before .survey-in .last .1 .0) (now (c .before .before .before .before .before .before .before .before .before .before .before .before .before .before .before .before .before .before .before .before .before .before .before .before .before .before .args .words)) 14412 (holds-words (c .before .before .before .before .before .before .before .before .before .before .survey-in .ensures .1)) h)
+write-counts-requires c κs = counts-fit (now (c .before .before .before .before .before .before .before .before .before .before .before .before .before .before .before .before .before .before .before .before .before .before .before .before .before .before .args .words)) (now (c .before .before .before .before .before .before .before .before .before .before .before .before .before .before .before .before .before .before .before .before .before .before .before .before .before .before .args .numbers)) (now (c .before .before .before .before .before .before .before .before .before .before .before .before .before .before .before .before .before .before .before .before .before .before .before .before .before .before .args .classes)) (now (c .before .before .before .before .before .before .before .before .before .before .before .before .before .before .before .before .before .before .before .before .before .before .before .before .before .before .args .reasons)) (sym (c .before .before .before .before .before .before .before .before .before .before .before .before .before .before .before .before .survey-small .ensures) ∙ c .before .before .before .before .before .before .before .before .before .before .before .before .before .before .before .if1 .left) (c .before .before .before .before .before .before .before .before .before .before .survey-in .last .1 .0) (holds-words (c .before .before .before .before .before .before .before .before .before .before .survey-in .ensures .1))
 
 same-length-5 : tie.Need-same-length-5
-same-length-5 c =
-    let q = survey-room (length (now (c .before .before .before .before .before .before .before .before .before .before .before .before .before .before .before .before .before .before .before .before .before .before .before .before .before .before .before .before .before .before .args .words))) (length (now (c .before .before .before .before .before .before .before .before .before .before .before .before .before .before .before .before .before .before .before .before .before .before .before .before .before .before .before .before .before .before .args .numbers))) (length (now (c .before .before .before .before .before .before .before .before .before .before .before .before .before .before .before .before .before .before .before .before .before .before .before .before .before .before .before .before .before .before .args .classes))) (length (now (c .before .before .before .before .before .before .before .before .before .before .before .before .before .before .before .before .before .before .before .before .before .before .before .before .before .before .before .before .before .before .args .reasons))) (sym (c .before .before .before .before .before .before .before .before .before .before .before .before .before .before .before .before .before .before .before .before .survey-small .ensures) ∙ c .before .before .before .before .before .before .before .before .before .before .before .before .before .before .before .before .before .before .before .if1 .left) in
-    let r = room (length (now (c .before .before .before .before .before .before .before .before .before .before .before .before .before .before .before .before .before .before .before .before .before .before .before .before .before .before .before .before .before .before .args .words))) (length (now (c .before .before .before .before .before .before .before .before .before .before .before .before .before .before .before .before .before .before .before .before .before .before .before .before .before .before .before .before .before .before .args .numbers))) (q .0) in
-    let h : 14412 ≤ length (now (c .before .before .before .before .before .before .before .before .before .before .before .before .before .before .before .before .before .before .before .before .before .before .before .before .before .before .before .before .before .before .args .words)) = omega (arith, r .0) in
-    c .before .before .before .write-counts .kept .0 ∙ back-long (c .before .before .before .before .before .before .before .before .before .before .before .before .before .before .survey-in .last .1 .0) (now (c .before .before .before .before .before .before .before .before .before .before .before .before .before .before .before .before .before .before .before .before .before .before .before .before .before .before .before .before .before .before .args .words)) 14412 (holds-words (c .before .before .before .before .before .before .before .before .before .before .before .before .before .before .survey-in .ensures .1)) h
+same-length-5 c = c .before .before .before .write-counts .kept .0 ∙ words-long (now (c .before .before .before .before .before .before .before .before .before .before .before .before .before .before .before .before .before .before .before .before .before .before .before .before .before .before .before .before .before .before .args .words)) (now (c .before .before .before .before .before .before .before .before .before .before .before .before .before .before .before .before .before .before .before .before .before .before .before .before .before .before .before .before .before .before .args .numbers)) (now (c .before .before .before .before .before .before .before .before .before .before .before .before .before .before .before .before .before .before .before .before .before .before .before .before .before .before .before .before .before .before .args .classes)) (now (c .before .before .before .before .before .before .before .before .before .before .before .before .before .before .before .before .before .before .before .before .before .before .before .before .before .before .before .before .before .before .args .reasons)) (sym (c .before .before .before .before .before .before .before .before .before .before .before .before .before .before .before .before .before .before .before .before .survey-small .ensures) ∙ c .before .before .before .before .before .before .before .before .before .before .before .before .before .before .before .before .before .before .before .if1 .left) (c .before .before .before .before .before .before .before .before .before .before .before .before .before .before .survey-in .last .1 .0) (holds-words (c .before .before .before .before .before .before .before .before .before .before .before .before .before .before .survey-in .ensures .1))
 
 same-length-6 : tie.Need-same-length-6
-same-length-6 c =
-    let q = survey-room (length (now (c .before .before .before .before .before .before .before .before .before .before .before .before .before .before .before .before .before .before .before .before .before .before .before .before .before .before .before .before .before .before .args .words))) (length (now (c .before .before .before .before .before .before .before .before .before .before .before .before .before .before .before .before .before .before .before .before .before .before .before .before .before .before .before .before .before .before .args .numbers))) (length (now (c .before .before .before .before .before .before .before .before .before .before .before .before .before .before .before .before .before .before .before .before .before .before .before .before .before .before .before .before .before .before .args .classes))) (length (now (c .before .before .before .before .before .before .before .before .before .before .before .before .before .before .before .before .before .before .before .before .before .before .before .before .before .before .before .before .before .before .args .reasons))) (sym (c .before .before .before .before .before .before .before .before .before .before .before .before .before .before .before .before .before .before .before .before .survey-small .ensures) ∙ c .before .before .before .before .before .before .before .before .before .before .before .before .before .before .before .before .before .before .before .if1 .left) in
-    let r = room (length (now (c .before .before .before .before .before .before .before .before .before .before .before .before .before .before .before .before .before .before .before .before .before .before .before .before .before .before .before .before .before .before .args .words))) (length (now (c .before .before .before .before .before .before .before .before .before .before .before .before .before .before .before .before .before .before .before .before .before .before .before .before .before .before .before .before .before .before .args .numbers))) (q .0) in
-    back-long (c .before .before .before .before .before .before .before .before .before .before .before .before .before .before .survey-in .last .1 .1 .0) (now (c .before .before .before .before .before .before .before .before .before .before .before .before .before .before .before .before .before .before .before .before .before .before .before .before .before .before .before .before .before .before .args .numbers)) 8192 (holds-numbers (c .before .before .before .before .before .before .before .before .before .before .before .before .before .before .survey-in .ensures .1)) (r .1)
+same-length-6 c = search needs
 
 same-length-7 : tie.Need-same-length-7
-same-length-7 c =
-    let q = survey-room (length (now (c .before .before .before .before .before .before .before .before .before .before .before .before .before .before .before .before .before .before .before .before .before .before .before .before .before .before .before .before .before .before .args .words))) (length (now (c .before .before .before .before .before .before .before .before .before .before .before .before .before .before .before .before .before .before .before .before .before .before .before .before .before .before .before .before .before .before .args .numbers))) (length (now (c .before .before .before .before .before .before .before .before .before .before .before .before .before .before .before .before .before .before .before .before .before .before .before .before .before .before .before .before .before .before .args .classes))) (length (now (c .before .before .before .before .before .before .before .before .before .before .before .before .before .before .before .before .before .before .before .before .before .before .before .before .before .before .before .before .before .before .args .reasons))) (sym (c .before .before .before .before .before .before .before .before .before .before .before .before .before .before .before .before .before .before .before .before .survey-small .ensures) ∙ c .before .before .before .before .before .before .before .before .before .before .before .before .before .before .before .before .before .before .before .if1 .left) in
-    back-long (c .before .before .before .before .before .before .before .before .before .before .before .before .before .before .survey-in .last .1 .1 .1 .0) (now (c .before .before .before .before .before .before .before .before .before .before .before .before .before .before .before .before .before .before .before .before .before .before .before .before .before .before .before .before .before .before .args .classes)) 65536 (c .before .before .before .before .before .before .before .before .before .before .before .before .before .before .survey-in .kept .1 .1 .1 .0 ∙ length-take-le 65536 (now (c .before .before .before .before .before .before .before .before .before .before .before .before .before .before .before .before .before .before .before .before .before .before .before .before .before .before .before .before .before .before .args .classes)) (q .1)) (q .1)
+same-length-7 c = search needs
 
 same-length-8 : tie.Need-same-length-8
-same-length-8 c =
-    let q = survey-room (length (now (c .before .before .before .before .before .before .before .before .before .before .before .before .before .before .before .before .before .before .before .before .before .before .before .before .before .before .before .before .before .before .args .words))) (length (now (c .before .before .before .before .before .before .before .before .before .before .before .before .before .before .before .before .before .before .before .before .before .before .before .before .before .before .before .before .before .before .args .numbers))) (length (now (c .before .before .before .before .before .before .before .before .before .before .before .before .before .before .before .before .before .before .before .before .before .before .before .before .before .before .before .before .before .before .args .classes))) (length (now (c .before .before .before .before .before .before .before .before .before .before .before .before .before .before .before .before .before .before .before .before .before .before .before .before .before .before .before .before .before .before .args .reasons))) (sym (c .before .before .before .before .before .before .before .before .before .before .before .before .before .before .before .before .before .before .before .before .survey-small .ensures) ∙ c .before .before .before .before .before .before .before .before .before .before .before .before .before .before .before .before .before .before .before .if1 .left) in
-    back-long (c .before .before .before .before .before .before .before .before .before .before .before .before .before .before .survey-in .last .1 .1 .1 .1 .0) (now (c .before .before .before .before .before .before .before .before .before .before .before .before .before .before .before .before .before .before .before .before .before .before .before .before .before .before .before .before .before .before .args .reasons)) 65536 (c .before .before .before .before .before .before .before .before .before .before .before .before .before .before .survey-in .kept .1 .1 .1 .1 .0 ∙ length-take-le 65536 (now (c .before .before .before .before .before .before .before .before .before .before .before .before .before .before .before .before .before .before .before .before .before .before .before .before .before .before .before .before .before .before .args .reasons)) (q .2)) (q .2)
+same-length-8 c = search needs
 
 returns-2 : tie.Need-returns-2
 returns-2 c =
