@@ -1,7 +1,7 @@
 -- `meaning` by cases, as the code goes. Assumes nothing.
 use mathlib.Core.Path.{_≡_, refl, sym, ap, _∙_}
 use mathlib.Core.Logic.{_⊎_, inl, inr}
-use mathlib.Core.Bool.{Bool, true, false, cond, _&&_}
+use mathlib.Core.Bool.{Bool, true, false, _&&_}
 use Prim.Native.Nat.{ℕ, _+_, _-_, _^_, _<_, _≤_, min}
 use native.Mathlib.Nat.{eq-zero-or-pos}
 use native.Mathlib.Omega.{arith}
@@ -11,6 +11,7 @@ use lib.Ieee.{fin, binary64, ofInt, mul, div}
 use borrow.Author.Tests.{lt-leb, le-leb, eq-eqb, ne-eqb}
 use Rattle.decimals.specs.declared.Number.the-variants.{Value, Beyond}
 use Rattle.decimals.specs.Cap.{cap}
+use Rattle.decimals.specs.Nearest.{gap}
 use Rattle.decimals.specs.Reach.{ten, signed, meaning}
 use Rattle.decimals.proofs.Whole.{le-or-lt}
 
@@ -22,29 +23,14 @@ pub meaning-far : (minus : Bool) (w up down : ℕ) → 2 ^ 53 < w → meaning mi
 unfolding meaning
 meaning-far minus w up down h = simp (ne-eqb w 0 (λ e. omega arith), lt-leb w (2 ^ 53) h)
 
-reach-up : (up down : ℕ) → down ≤ up → leb up (down + 22) && leb down (up + 22) ≡ leb (up - down) 22
-reach-up up down h =
-    elim (le-or-lt up (down + 22)) [
-      | inl k ↦ simp (le-leb up (down + 22) k, le-leb down (up + 22) (omega arith), le-leb (up - down) 22 (omega arith))
-      | inr k ↦ simp (lt-leb up (down + 22) k, lt-leb (up - down) 22 (omega arith))
-    ]
+module _ (minus : Bool) (w up down : ℕ) (n : w ≡ 0 → ⊥) (l : w ≤ 2 ^ 53) where
+  pub meaning-up : down ≤ up → up - down ≤ 22 → meaning minus w up down ≡ Value (signed minus (mul binary64 (ofInt binary64 (pos w)) (ten (up - down))))
+  unfolding meaning
+  meaning-up h k = simp (ne-eqb w 0 n, le-leb w (2 ^ 53) l, le-leb down up h, le-leb up (down + 22) (omega arith), le-leb down (up + 22) (omega arith))
 
-reach-down : (up down : ℕ) → up < down → leb up (down + 22) && leb down (up + 22) ≡ leb (down - up) 22
-reach-down up down h =
-    elim (le-or-lt down (up + 22)) [
-      | inl k ↦ simp (le-leb up (down + 22) (omega arith), le-leb down (up + 22) k, le-leb (down - up) 22 (omega arith))
-      | inr k ↦ simp (le-leb up (down + 22) (omega arith), lt-leb down (up + 22) k, lt-leb (down - up) 22 (omega arith))
-    ]
-
-pub meaning-up : (minus : Bool) (w up down : ℕ) → (w ≡ 0 → ⊥) → w ≤ 2 ^ 53 → down ≤ up
-    → meaning minus w up down ≡ cond (leb (up - down) 22) (Value (signed minus (mul binary64 (ofInt binary64 (pos w)) (ten (up - down))))) Beyond
-unfolding meaning
-meaning-up minus w up down n l h = simp (ne-eqb w 0 n, le-leb w (2 ^ 53) l, le-leb down up h, reach-up up down h)
-
-pub meaning-down : (minus : Bool) (w up down : ℕ) → (w ≡ 0 → ⊥) → w ≤ 2 ^ 53 → up < down
-    → meaning minus w up down ≡ cond (leb (down - up) 22) (Value (signed minus (div binary64 (ofInt binary64 (pos w)) (ten (down - up))))) Beyond
-unfolding meaning
-meaning-down minus w up down n l h = simp (ne-eqb w 0 n, le-leb w (2 ^ 53) l, lt-leb down up h, reach-down up down h)
+  pub meaning-down : up < down → down - up ≤ 22 → meaning minus w up down ≡ Value (signed minus (div binary64 (ofInt binary64 (pos w)) (ten (down - up))))
+  unfolding meaning
+  meaning-down h k = simp (ne-eqb w 0 n, le-leb w (2 ^ 53) l, lt-leb down up h, le-leb up (down + 22) (omega arith), le-leb down (up + 22) (omega arith))
 
 -- ---- a count that stops at the cap says as much as the whole count
 past-up : (b c : Bool) → b && false && c ≡ false
@@ -59,6 +45,10 @@ pub meaning-beyond : (minus : Bool) (w up down : ℕ) → (w ≡ 0 → ⊥) → 
 unfolding meaning
 meaning-beyond minus w up down n (inl h) = simp (ne-eqb w 0 n, lt-leb up (down + 22) h, past-up (leb w (2 ^ 53)) (leb down (up + 22)))
 meaning-beyond minus w up down n (inr h) = simp (ne-eqb w 0 n, lt-leb down (up + 22) h, past-down (leb w (2 ^ 53) && leb up (down + 22)))
+
+pub meaning-apart : (minus : Bool) (w up down k : ℕ) → (w ≡ 0 → ⊥) → k ≡ gap up down → 22 < k → meaning minus w up down ≡ Beyond
+meaning-apart minus w up down k n e h =
+    elim (le-or-lt down up) [ inl l ↦ meaning-beyond minus w up down n (inl (omega arith)) | inr l ↦ meaning-beyond minus w up down n (inr (omega arith)) ]
 
 pub both-beyond : (minus : Bool) (w up down up' down' : ℕ) → (down + 22 < up) ⊎ (up + 22 < down) → (down' + 22 < up') ⊎ (up' + 22 < down') → meaning minus w up down ≡ meaning minus w up' down'
 both-beyond minus w up down up' down' h k =

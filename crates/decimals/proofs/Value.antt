@@ -16,7 +16,7 @@ use lib.Ieee.Back.{round-whole}
 use lib.Ieee.Scale.{round-same}
 use lib.Ieee.Order.{drop, kept}
 use lib.Ieee.Positive.{num, den, positive, den-pos, value→cross, positive-of-value, mul-at}
-use borrow.Author.Tests.{ne-eqb, le-leb, eqb-true}
+use borrow.Author.Tests.{ne-eqb, eqb-true}
 use Rattle.decimals.specs.declared.Number.{Number}
 use Rattle.decimals.specs.declared.Number.the-variants.{Value, Malformed, Beyond}
 use Rattle.decimals.specs.Nearest.{IsNearest, limit}
@@ -147,9 +147,6 @@ in-reach w up down t =
     let c : Bool = leb down (up + 22) in
     (leb→le w (2 ^ 53) (and-l a b (and-l (a && b) c t)), leb→le up (down + 22) (and-r a b (and-l (a && b) c t)), leb→le down (up + 22) (and-r (a && b) c t))
 
-chosen : {A : Type 0} (a b : ℕ) (x y : A) → a ≤ b → cond (leb a b) x y ≡ x
-chosen a b x y h = simp (le-leb a b h)
-
 pub meaning-right : (minus : Bool) (w up down : ℕ) → Right minus w up down (meaning minus w up down)
 meaning-right minus w up down = record { within = λ t. told (within t); past = λ t. ap numberAnswer (past t) }
   where
@@ -167,11 +164,11 @@ meaning-right minus w up down = record { within = λ t. told (within t); past = 
         elim (le-or-lt down up) [
           | inl h ↦
               let k : up - down ≤ 22 = omega (arith, r .1) in
-              (signed minus (mul binary64 (ofInt binary64 (pos w)) (ten (up - down))), meaning-up minus w up down n (r .0) h ∙ chosen (up - down) 22 _ Beyond k, nearest-mul minus w up down W (r .0) h k)
+              (signed minus (mul binary64 (ofInt binary64 (pos w)) (ten (up - down))), meaning-up minus w up down n (r .0) h k, nearest-mul minus w up down W (r .0) h k)
           | inr h ↦
               let k : down - up ≤ 22 = omega (arith, r .2) in
               let g : up ≤ down = omega arith in
-              (signed minus (div binary64 (ofInt binary64 (pos w)) (ten (down - up))), meaning-down minus w up down n (r .0) h ∙ chosen (down - up) 22 _ Beyond k, nearest-div minus w up down W (r .0) g k)
+              (signed minus (div binary64 (ofInt binary64 (pos w)) (ten (down - up))), meaning-down minus w up down n (r .0) h k, nearest-div minus w up down W (r .0) g k)
         ]
 
     within : T (reachable w up down) → (x : Float) × (meaning minus w up down ≡ Value x) × IsNearest minus (w * 10 ^ up) (10 ^ down) x

@@ -1,13 +1,9 @@
 // The class of a byte, decimal numbers and counts. specs/Numbers.antt says what is a number, specs/Nearest.antt which double it gives, and
 // specs/Counts.antt what is a count.
 ghost use mathlib.Core.Path.{_≡_};
-ghost use mathlib.Core.Bool.{false, cond};
 ghost use Prim.Native.Nat.{_+_, _-_, _*_, _^_, _<_, _≤_, min};
-ghost use lib.IntN.{pos};
 ghost use lib.ListN.{length};
-ghost use lib.Dec.{leb};
-ghost use lib.Ieee as Ieee;
-ghost use lib.Ieee.{binary64};
+ghost use Rattle.decimals.specs.Nearest.{gap};
 ghost use Rattle.decimals.specs.Reach.{ten, signed, meaning};
 ghost use Rattle.decimals.specs.Bytes.{classOf, is, lower};
 ghost use Rattle.decimals.specs.Digits.{digits, value};
@@ -22,12 +18,12 @@ pub enum Number {
 }
 
 // 10^0 to 10^22: each is a double exactly. A match, and no table: a table would be laid out anew at each number.
+// What is left over is 10^0: no fraction is divided by it, so that a fraction's power is found without a test.
 fn power_of_ten(k: usize) -> f64
     requires { ⌜ k < 23 ⌝ }
     ensures { λ r. ⌜ r ≡ ten k ⌝ }
 {
     match k {
-        0 => 1.0,
         1 => 1e1,
         2 => 1e2,
         3 => 1e3,
@@ -49,7 +45,8 @@ fn power_of_ten(k: usize) -> f64
         19 => 1e19,
         20 => 1e20,
         21 => 1e21,
-        _ => 1e22,
+        22 => 1e22,
+        _ => 1.0,
     }
 }
 
@@ -59,31 +56,14 @@ fn with_sign(minus: bool, x: f64) -> f64
     if minus { -x } else { x }
 }
 
-fn multiplied(minus: bool, w: u64, k: usize) -> Number
-    requires { ⌜ w ≤ 2 ^ 53 ⌝ }
-    ensures { λ r. ⌜ r ≡ cond (leb k 22) (Number.Value (signed minus (Ieee.mul binary64 (Ieee.ofInt binary64 (pos w)) (ten k)))) Number.Beyond ⌝ }
+// How far apart a and b are.
+fn gap(a: usize, b: usize) -> usize
+    ensures { λ r. ⌜ r ≡ gap a b ⌝ }
 {
-    if k > 22 {
-        return Number::Beyond;
-    }
-    let x = w as f64;
-    let y = x * power_of_ten(k);
-    Number::Value(with_sign(minus, y))
+    if a <= b { b - a } else { a - b }
 }
 
-fn divided(minus: bool, w: u64, k: usize) -> Number
-    requires { ⌜ w ≤ 2 ^ 53 ⌝ }
-    ensures { λ r. ⌜ r ≡ cond (leb k 22) (Number.Value (signed minus (Ieee.div binary64 (Ieee.ofInt binary64 (pos w)) (ten k)))) Number.Beyond ⌝ }
-{
-    if k > 22 {
-        return Number::Beyond;
-    }
-    let x = w as f64;
-    let y = x / power_of_ten(k);
-    Number::Value(with_sign(minus, y))
-}
-
-// ±w * 10^up / 10^down
+// ±w * 10^up / 10^down. Both w and the power of ten are doubles exactly, so the one operation rounds right.
 fn valued(minus: bool, w: u64, up: usize, down: usize) -> Number
     ensures { λ r. ⌜ r ≡ meaning minus w up down ⌝ }
 {
@@ -94,10 +74,16 @@ fn valued(minus: bool, w: u64, up: usize, down: usize) -> Number
     if w > 9007199254740992 {
         return Number::Beyond;
     }
+    let k = gap(up, down);
+    if k > 22 {
+        return Number::Beyond;
+    }
+    let x = w as f64;
+    let p = power_of_ten(k);
     if down <= up {
-        multiplied(minus, w, up - down)
+        Number::Value(with_sign(minus, x * p))
     } else {
-        divided(minus, w, down - up)
+        Number::Value(with_sign(minus, x / p))
     }
 }
 
@@ -291,6 +277,7 @@ fn read_point(minus: bool, w: u64, count: usize, s: &[u8]) -> Number
             let d = leading(t, w);
             let n = d.len;
             let v = d.value;
+            // Digits, a point, digits and the end, as most numbers are written.
             if n > 0 {
                 if n == t.len() {
                     return valued(minus, v, 0, n);
