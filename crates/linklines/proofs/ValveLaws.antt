@@ -4,8 +4,10 @@ use mathlib.Core.Path.{_≡_, refl, subst}
 use mathlib.Core.List.{List, [], _∷_}
 use types.Run.{OneOf, miss}
 use denote.Enum.Declared.{tagOf}
-use Rattle.fields.specs.Fields.{Name, fieldsAt, Next, Past}
+use Rattle.fields.specs.Fields.{Name, fieldsAt, Next}
 use Rattle.fields.specs.declared.Field.{Field}
+use Rattle.fields.specs.declared.Field.the-variants.{Taken, Nothing}
+use Rattle.fields.specs.declared.Span.{Span}
 use Rattle.scope.specs.declared.ValveType.{ValveType}
 use Rattle.scope.specs.declared.ValveType.the-variants.{Gpv, Tcv, Fcv, Prv, Psv, Pbv, Pcv}
 use Rattle.scope.proofs.ValveType.{the-type}
@@ -25,11 +27,18 @@ told-type {a} {b} {r} {r′} e q h = subst (λ (x : List ℕ). TypeAs (typeOf x)
 pub told-setting : (l : List ℕ) (o : Took scope.Setting) {r r′ : TookSetting} → r ≡ r′ → SettingAs l o r → SettingAs l o r′
 told-setting l o e h = subst (λ (x : TookSetting). SettingAs l o x) e h
 
--- a GPV has a curve
-pub curve-set : {l : List ℕ} {at next : ℕ} {t : ValveType} (f : Field) → t ≡ Gpv → Next l at f → Past l at next
-    → SettingAs l (settingFrom t (fieldsAt l at)) (Setting zeroF f next)
+-- a GPV has a curve, which may be missing
+pub no-curve-set : {l : List ℕ} {at : ℕ} {t : ValveType} (f : Field) → t ≡ Gpv → Next l at f → f ≡ Nothing → SettingAs l (settingFrom t (fieldsAt l at)) (Setting zeroF f at)
 unfolding settingFrom
-curve-set f e n p = (rw (e, optional f n, ← p .left), may-fit f n)
+no-curve-set f e n q =
+    let h = n .nothing q in
+    (rw (e, optional f n, h), may-fit f n)
+
+pub curve-set : {l : List ℕ} {at : ℕ} {t : ValveType} {f : Field} (s : Span) → t ≡ Gpv → Next l at f → f ≡ Taken s → SettingAs l (settingFrom t (fieldsAt l at)) (Setting zeroF (Taken s) (s .end))
+unfolding settingFrom
+curve-set s e n q =
+    let (h, k) = n .taken s q in
+    (rw (e, h), k)
 
 -- any other type a number
 pub number-set : (t : ValveType) (fs : List Name) → OneOf (1 ∷ 2 ∷ 3 ∷ 4 ∷ 5 ∷ 6 ∷ []) (tagOf the-type t) → settingFrom t fs ≡ settingTook (swallowedFrom zeroF fs)

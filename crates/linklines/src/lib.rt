@@ -262,8 +262,10 @@ fn take_setting(l: &[u8], at: usize, kind: ValveType) -> TookSetting
 {
     if let ValveType::Gpv = kind {
         let curve = fields::next_field(l, at);
-        let next = fields::past_field(l, at);
-        return TookSetting::Setting(0.0, curve, next);
+        let Field::Taken(named) = curve else {
+            return TookSetting::Setting(0.0, curve, at);
+        };
+        return TookSetting::Setting(0.0, curve, named.end);
     }
     let t = takers::take_swallowed(l, at, 0.0);
     match t {
