@@ -161,7 +161,7 @@ fn digit_value(b: u8) -> u64
     requires { ⌜ (48 ≤ b) × (b ≤ 57) ⌝ }
     ensures { λ r. ⌜ r ≡ b - 48 ⌝ }
 {
-    (b - 48) as u64
+    (b as u64) - 48
 }
 
 // v with one digit more, up to a number past which it no longer matters.
@@ -268,7 +268,10 @@ fn read_point(minus: bool, w: u64, count: usize, s: &[u8]) -> Number
     ensures { λ r. ⌜ r ≡ outcome (point minus w count (now (s .entry))) ⌝ }
 {
     if s.len() == 0 {
-        return read_ending(minus, w, count, 0, s);
+        if count == 0 {
+            return Number::Malformed;
+        }
+        return valued(minus, w, 0, 0);
     }
     let b = s[0];
     match class_of(b) {
