@@ -79,7 +79,7 @@ module _ {text : List ℕ} {m : Network} {s : Counts} {w : List ℕ} {f : List F
     unfolding addLink
     link-stored sits n ew ef =
         let link : Link = record { id = id; start = e .start; end = e .end; kind = k } in
-        let held = add-link h link (count-links h) n sits free ew ef in
+        let held = add-link h link (count-links h) n sits ew ef in
         rw (free, lt-ltb (length (m .links)) 256 (omega (arith, n, count-links h))) (rw (h .counts, length-append), held)
 
 -- ---- a pipe or a valve

@@ -66,7 +66,7 @@ module _ {text : List ℕ} {m : Network} {s : Counts} {w : List ℕ} {f : List F
         let x : Node = newNode (nameIn text id) k in
         let ws = ew ∙ ap (λ (l : List ℕ). splice w (nodesAt + s .nodes * nodeSize) (idWords (nameIn text id) ++ l ++ (0 ∷ []))) (sym (a .words)) in
         let ns = ef ∙ ap (λ (l : List Float). splice f (nodeNumbersAt + s .nodes * nodeNumbersSize) l) (sym (a .numbers (nameIn text id))) in
-        let held = add-node h x (count-nodes h) n (sits-span text id fit, a .pattern) free ws ns in
+        let held = add-node h x (count-nodes h) n (sits-span text id fit, a .pattern) ws ns in
         rw (free, lt-ltb (length (m .nodes)) 256 (omega (arith, n, count-nodes h))) (rw (h .counts, length-append), held)
 
 -- ---- a junction
@@ -97,7 +97,7 @@ module _ {text : List ℕ} {m : Network} {s : Counts} {w : List ℕ} {f : List F
         let jf : JunctionFields = junctionIn text j in
         let w0 : List ℕ = splice w (nodesAt + s .nodes * nodeSize) (nodeWords (junctionNode jf)) in
         let f0 : List Float = splice f (nodeNumbersAt + s .nodes * nodeNumbersSize) (nodeNumbers (junctionNode jf)) in
-        let h1 = add-node h {w′ = w0} {f′ = f0} (junctionNode jf) (count-nodes h) n (sits-span text (j .id) fit, tt) free refl refl in
+        let h1 = add-node h {w′ = w0} {f′ = f0} (junctionNode jf) (count-nodes h) n (sits-span text (j .id) fit, tt) refl refl in
         let ws = ew ∙ ap (λ (i : ℕ). splice w0 (demandsAt + s .demands * demandSize) (demandWords (junctionDemand i jf))) (count-nodes h) in
         let h2 = add-demand h1 (junctionDemand (length (m .nodes)) jf) (count-demands h) d (sits-field text (j .pattern) may) ws ef in
         rw (free, lt-ltb (length (m .nodes)) 256 (omega (arith, n, count-nodes h)), lt-ltb (length (m .demands)) 512 (omega (arith, d, count-demands h)))

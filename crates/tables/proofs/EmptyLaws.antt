@@ -81,8 +81,6 @@ none-known text =
       times = refl;
       rules = record { bound = omega arith; fine = tt };
       clauses = record { bound = omega arith; fine = tt };
-      nodesApart = λ i h. absurd (omega arith);
-      linksApart = λ i h. absurd (omega arith);
     }
 
 pub empty : (text w : List ℕ) (f : List Float) → w ≡ replicate recordWords 0 → f ≡ replicate roomNumbers zeroF → Holds text noNetwork (countsOf noNetwork) w f

@@ -12,16 +12,14 @@ use Rattle.fields.specs.declared.Span.{Span}
 use Rattle.fields.specs.declared.Field.{Field}
 use Rattle.fields.specs.declared.Field.the-variants.{Taken, Nothing}
 use Rattle.fields.proofs.FieldLaws.{length-part}
-use Rattle.scope.specs.Records.{Network, Node, Link, Point, Multiplier, Demand, Rule, Clause, zeroF, noNetwork, countsOf, lookup, nodeIds, linkIds, withNodes, withLinks, withCurves, withPoints, withPatterns, withMultipliers, withDemands, withTimes, withRules, withClauses}
+use Rattle.scope.specs.Records.{Network, Node, Link, Point, Multiplier, Demand, Rule, Clause, zeroF, noNetwork, countsOf, withNodes, withLinks, withCurves, withPoints, withPatterns, withMultipliers, withDemands, withTimes, withRules, withClauses}
 use Rattle.scope.specs.Sections.{roomNodes, roomLinks, roomCurves, roomPoints, roomPatterns, roomMultipliers, roomDemands, roomRules, roomClauses}
 use Rattle.scope.specs.Series.{multiplierOf}
 use Rattle.scope.specs.Tables.{flat, region, blocks, recordWords, roomNumbers, idWords, countWords, nodeWords, nodeNumbers, linkWords, linkNumbers, pointWords, pointNumbers, multiplierWords, multiplierNumbers, demandWords, demandNumbers, ruleWords, clauseWords, clauseNumbers, wordBlocks, numberBlocks}
 use Rattle.scope.specs.declared.Counts.{Counts}
-use Rattle.scope.specs.declared.Found.the-variants.{Nowhere}
 use Rattle.tables.specs.Table.{splice}
 use Rattle.tables.specs.Layout.{nodesAt, linksAt, curvesAt, pointsAt, patternsAt, multipliersAt, demandsAt, timesAt, rulesAt, clausesAt, nodeSize, linkSize, idSize, demandSize, timeSize, ruleSize, clauseSize, nodeNumbersAt, linkNumbersAt, pointNumbersAt, multiplierNumbersAt, demandNumbersAt, clauseNumbersAt, nodeNumbersSize, linkNumbersSize, pointNumbersSize}
-use Rattle.tables.specs.Holding.{Sits, SitsOr, optIn, MayFit, Each, Part, NodeFine, LinkFine, PointFine, MultiplierFine, DemandFine, RuleFine, ClauseFine, Apart, Known, Words, Numbers, Holds}
-use Rattle.tables.proofs.ApartLaws.{apart-add, apart-set}
+use Rattle.tables.specs.Holding.{Sits, SitsOr, optIn, MayFit, Each, Part, NodeFine, LinkFine, PointFine, MultiplierFine, DemandFine, RuleFine, ClauseFine, Known, Words, Numbers, Holds}
 use Rattle.tables.proofs.BlockLaws.{add-records, add-record, change-part, change-record, keep-record}
 use Rattle.tables.proofs.SizeLaws.{node-words-lie, link-words-lie, curve-words-lie, point-words-lie, pattern-words-lie, multiplier-words-lie, demand-words-lie, time-words-lie, rule-words-lie, clause-words-lie, node-numbers-lie, link-numbers-lie, point-numbers-lie, multiplier-numbers-lie, demand-numbers-lie, clause-numbers-lie}
 
@@ -69,45 +67,45 @@ each-any (r ∷ rs) = (tt, each-any rs)
 
 -- ---- the network with other records of one kind
 module _ {text : List ℕ} {m : Network} (k : Known text m) where
-  known-nodes : (xs : List Node) → Part (NodeFine text) roomNodes xs → Apart (map (λ n. n .id) xs) → Known text (withNodes xs m)
-  known-nodes xs p q = record { nodes = p; links = k .links; curves = k .curves; points = k .points; patterns = k .patterns; multipliers = k .multipliers; demands = k .demands; times = k .times; rules = k .rules; clauses = k .clauses; nodesApart = q; linksApart = k .linksApart }
+  known-nodes : (xs : List Node) → Part (NodeFine text) roomNodes xs → Known text (withNodes xs m)
+  known-nodes xs p = record { nodes = p; links = k .links; curves = k .curves; points = k .points; patterns = k .patterns; multipliers = k .multipliers; demands = k .demands; times = k .times; rules = k .rules; clauses = k .clauses }
 
-  known-links : (xs : List Link) → Part (LinkFine text) roomLinks xs → Apart (map (λ l. l .id) xs) → Known text (withLinks xs m)
-  known-links xs p q = record { nodes = k .nodes; links = p; curves = k .curves; points = k .points; patterns = k .patterns; multipliers = k .multipliers; demands = k .demands; times = k .times; rules = k .rules; clauses = k .clauses; nodesApart = k .nodesApart; linksApart = q }
+  known-links : (xs : List Link) → Part (LinkFine text) roomLinks xs → Known text (withLinks xs m)
+  known-links xs p = record { nodes = k .nodes; links = p; curves = k .curves; points = k .points; patterns = k .patterns; multipliers = k .multipliers; demands = k .demands; times = k .times; rules = k .rules; clauses = k .clauses }
 
   known-curves : (xs : List Name) → Part (Sits text) roomCurves xs → Known text (withCurves xs m)
-  known-curves xs p = record { nodes = k .nodes; links = k .links; curves = p; points = k .points; patterns = k .patterns; multipliers = k .multipliers; demands = k .demands; times = k .times; rules = k .rules; clauses = k .clauses; nodesApart = k .nodesApart; linksApart = k .linksApart }
+  known-curves xs p = record { nodes = k .nodes; links = k .links; curves = p; points = k .points; patterns = k .patterns; multipliers = k .multipliers; demands = k .demands; times = k .times; rules = k .rules; clauses = k .clauses }
 
   known-points : (xs : List Point) → Part PointFine roomPoints xs → Known text (withPoints xs m)
-  known-points xs p = record { nodes = k .nodes; links = k .links; curves = k .curves; points = p; patterns = k .patterns; multipliers = k .multipliers; demands = k .demands; times = k .times; rules = k .rules; clauses = k .clauses; nodesApart = k .nodesApart; linksApart = k .linksApart }
+  known-points xs p = record { nodes = k .nodes; links = k .links; curves = k .curves; points = p; patterns = k .patterns; multipliers = k .multipliers; demands = k .demands; times = k .times; rules = k .rules; clauses = k .clauses }
 
   known-patterns : (xs : List Name) → Part (Sits text) roomPatterns xs → Known text (withPatterns xs m)
-  known-patterns xs p = record { nodes = k .nodes; links = k .links; curves = k .curves; points = k .points; patterns = p; multipliers = k .multipliers; demands = k .demands; times = k .times; rules = k .rules; clauses = k .clauses; nodesApart = k .nodesApart; linksApart = k .linksApart }
+  known-patterns xs p = record { nodes = k .nodes; links = k .links; curves = k .curves; points = k .points; patterns = p; multipliers = k .multipliers; demands = k .demands; times = k .times; rules = k .rules; clauses = k .clauses }
 
   known-multipliers : (xs : List Multiplier) → Part MultiplierFine roomMultipliers xs → Known text (withMultipliers xs m)
-  known-multipliers xs p = record { nodes = k .nodes; links = k .links; curves = k .curves; points = k .points; patterns = k .patterns; multipliers = p; demands = k .demands; times = k .times; rules = k .rules; clauses = k .clauses; nodesApart = k .nodesApart; linksApart = k .linksApart }
+  known-multipliers xs p = record { nodes = k .nodes; links = k .links; curves = k .curves; points = k .points; patterns = k .patterns; multipliers = p; demands = k .demands; times = k .times; rules = k .rules; clauses = k .clauses }
 
   known-demands : (xs : List Demand) → Part (DemandFine text) roomDemands xs → Known text (withDemands xs m)
-  known-demands xs p = record { nodes = k .nodes; links = k .links; curves = k .curves; points = k .points; patterns = k .patterns; multipliers = k .multipliers; demands = p; times = k .times; rules = k .rules; clauses = k .clauses; nodesApart = k .nodesApart; linksApart = k .linksApart }
+  known-demands xs p = record { nodes = k .nodes; links = k .links; curves = k .curves; points = k .points; patterns = k .patterns; multipliers = k .multipliers; demands = p; times = k .times; rules = k .rules; clauses = k .clauses }
 
   known-times : (xs : List (Option ℕ)) → length xs ≡ 6 → Known text (withTimes xs m)
-  known-times xs p = record { nodes = k .nodes; links = k .links; curves = k .curves; points = k .points; patterns = k .patterns; multipliers = k .multipliers; demands = k .demands; times = p; rules = k .rules; clauses = k .clauses; nodesApart = k .nodesApart; linksApart = k .linksApart }
+  known-times xs p = record { nodes = k .nodes; links = k .links; curves = k .curves; points = k .points; patterns = k .patterns; multipliers = k .multipliers; demands = k .demands; times = p; rules = k .rules; clauses = k .clauses }
 
   known-rules : (xs : List Rule) → Part (RuleFine text) roomRules xs → Known text (withRules xs m)
-  known-rules xs p = record { nodes = k .nodes; links = k .links; curves = k .curves; points = k .points; patterns = k .patterns; multipliers = k .multipliers; demands = k .demands; times = k .times; rules = p; clauses = k .clauses; nodesApart = k .nodesApart; linksApart = k .linksApart }
+  known-rules xs p = record { nodes = k .nodes; links = k .links; curves = k .curves; points = k .points; patterns = k .patterns; multipliers = k .multipliers; demands = k .demands; times = k .times; rules = p; clauses = k .clauses }
 
   known-clauses : (xs : List Clause) → Part ClauseFine roomClauses xs → Known text (withClauses xs m)
-  known-clauses xs p = record { nodes = k .nodes; links = k .links; curves = k .curves; points = k .points; patterns = k .patterns; multipliers = k .multipliers; demands = k .demands; times = k .times; rules = k .rules; clauses = p; nodesApart = k .nodesApart; linksApart = k .linksApart }
+  known-clauses xs p = record { nodes = k .nodes; links = k .links; curves = k .curves; points = k .points; patterns = k .patterns; multipliers = k .multipliers; demands = k .demands; times = k .times; rules = k .rules; clauses = p }
 
 -- ---- the words
 module _ {text : List ℕ} {m : Network} {w : List ℕ} (h : Words text m w) where
-  more-node-words : {w′ : List ℕ} {n : ℕ} (x : Node) → n ≡ length (m .nodes) → n < roomNodes → NodeFine text x → lookup (nodeIds m) (x .id .letters) ≡ Nowhere → w′ ≡ splice w (nodesAt + n * nodeSize) (nodeWords x) → Words text (withNodes (m .nodes ++ (x ∷ [])) m) w′
+  more-node-words : {w′ : List ℕ} {n : ℕ} (x : Node) → n ≡ length (m .nodes) → n < roomNodes → NodeFine text x → w′ ≡ splice w (nodesAt + n * nodeSize) (nodeWords x) → Words text (withNodes (m .nodes ++ (x ∷ [])) m) w′
   unfolding wordBlocks
-  more-node-words {n = n} x c r a free e = record { exact = add-record (node-words-lie (h .known)) (h .exact) x c (omega arith) e; known = known-nodes (h .known) (m .nodes ++ (x ∷ [])) (more (h .known .nodes) x c r a) (apart-add (λ n. n .id) (m .nodes) x (h .known .nodesApart) free) }
+  more-node-words {n = n} x c r a e = record { exact = add-record (node-words-lie (h .known)) (h .exact) x c (omega arith) e; known = known-nodes (h .known) (m .nodes ++ (x ∷ [])) (more (h .known .nodes) x c r a) }
 
-  more-link-words : {w′ : List ℕ} {n : ℕ} (x : Link) → n ≡ length (m .links) → n < roomLinks → Sits text (x .id) → lookup (linkIds m) (x .id .letters) ≡ Nowhere → w′ ≡ splice w (linksAt + n * linkSize) (linkWords x) → Words text (withLinks (m .links ++ (x ∷ [])) m) w′
+  more-link-words : {w′ : List ℕ} {n : ℕ} (x : Link) → n ≡ length (m .links) → n < roomLinks → Sits text (x .id) → w′ ≡ splice w (linksAt + n * linkSize) (linkWords x) → Words text (withLinks (m .links ++ (x ∷ [])) m) w′
   unfolding wordBlocks
-  more-link-words {n = n} x c r a free e = record { exact = add-record (link-words-lie (h .known)) (h .exact) x c (omega arith) e; known = known-links (h .known) (m .links ++ (x ∷ [])) (more (h .known .links) x c r a) (apart-add (λ l. l .id) (m .links) x (h .known .linksApart) free) }
+  more-link-words {n = n} x c r a e = record { exact = add-record (link-words-lie (h .known)) (h .exact) x c (omega arith) e; known = known-links (h .known) (m .links ++ (x ∷ [])) (more (h .known .links) x c r a) }
 
   more-curve-words : {w′ : List ℕ} {n : ℕ} (x : Name) → n ≡ length (m .curves) → n < roomCurves → Sits text x → w′ ≡ splice w (curvesAt + n * idSize) (idWords x) → Words text (withCurves (m .curves ++ (x ∷ [])) m) w′
   unfolding wordBlocks
@@ -146,14 +144,14 @@ module _ {text : List ℕ} {m : Network} {w : List ℕ} (h : Words text m w) whe
   many-clause-words {n = n} xs c r e = record { exact = add-records (clause-words-lie (h .known)) (h .exact) xs c (omega arith) e; known = known-clauses (h .known) (m .clauses ++ xs) (many (h .known .clauses) xs c r (each-any xs)) }
 
   -- node i becomes x, which differs from it in `part`; or is encoded alike
-  part-node-words : {w′ : List ℕ} (i off : ℕ) (part : List ℕ) (x0 x : Node) → i < length (m .nodes) → off + length part ≤ nodeSize → NodeFine text x → x .id ≡ getD (m .nodes) i x0 .id → nodeWords x ≡ splice (nodeWords (getD (m .nodes) i x0)) off part
+  part-node-words : {w′ : List ℕ} (i off : ℕ) (part : List ℕ) (x0 x : Node) → i < length (m .nodes) → off + length part ≤ nodeSize → NodeFine text x → nodeWords x ≡ splice (nodeWords (getD (m .nodes) i x0)) off part
       → w′ ≡ splice w (nodesAt + i * nodeSize + off) part → Words text (withNodes (set (m .nodes) i x) m) w′
   unfolding wordBlocks
-  part-node-words i off part x0 x hi hp a same q e = record { exact = change-part (node-words-lie (h .known)) (h .exact) i off part x0 x hi hp q e; known = known-nodes (h .known) (set (m .nodes) i x) (other (h .known .nodes) i x a) (apart-set (λ n. n .id) (m .nodes) i x x0 (h .known .nodesApart) same) }
+  part-node-words i off part x0 x hi hp a q e = record { exact = change-part (node-words-lie (h .known)) (h .exact) i off part x0 x hi hp q e; known = known-nodes (h .known) (set (m .nodes) i x) (other (h .known .nodes) i x a) }
 
-  alike-node-words : (i : ℕ) (x0 x : Node) → NodeFine text x → x .id ≡ getD (m .nodes) i x0 .id → nodeWords x ≡ nodeWords (getD (m .nodes) i x0) → Words text (withNodes (set (m .nodes) i x) m) w
+  alike-node-words : (i : ℕ) (x0 x : Node) → NodeFine text x → nodeWords x ≡ nodeWords (getD (m .nodes) i x0) → Words text (withNodes (set (m .nodes) i x) m) w
   unfolding wordBlocks
-  alike-node-words i x0 x a same q = record { exact = keep-record (node-words-lie (h .known)) (h .exact) i x0 x q refl; known = known-nodes (h .known) (set (m .nodes) i x) (other (h .known .nodes) i x a) (apart-set (λ n. n .id) (m .nodes) i x x0 (h .known .nodesApart) same) }
+  alike-node-words i x0 x a q = record { exact = keep-record (node-words-lie (h .known)) (h .exact) i x0 x q refl; known = known-nodes (h .known) (set (m .nodes) i x) (other (h .known .nodes) i x a) }
 
   -- demand i becomes x, which differs from it in `part`; or is encoded alike
   part-demand-words : {w′ : List ℕ} (i off : ℕ) (part : List ℕ) (x0 x : Demand) → i < length (m .demands) → off + length part ≤ demandSize → SitsOr text (x .pattern) → demandWords x ≡ splice (demandWords (getD (m .demands) i x0)) off part
@@ -255,13 +253,13 @@ value-numbers i (x ∷ xs) = ap (λ (l : List Float). x ∷ l) (value-numbers i 
 
 -- ---- both tables
 module _ {text : List ℕ} {m : Network} {s : Counts} {w : List ℕ} {f : List Float} (h : Holds text m s w f) where
-  pub add-node : {w′ : List ℕ} {f′ : List Float} {n : ℕ} (x : Node) → n ≡ length (m .nodes) → n < roomNodes → NodeFine text x → lookup (nodeIds m) (x .id .letters) ≡ Nowhere
+  pub add-node : {w′ : List ℕ} {f′ : List Float} {n : ℕ} (x : Node) → n ≡ length (m .nodes) → n < roomNodes → NodeFine text x
       → w′ ≡ splice w (nodesAt + n * nodeSize) (nodeWords x) → f′ ≡ splice f (nodeNumbersAt + n * nodeNumbersSize) (nodeNumbers x) → Holds text (withNodes (m .nodes ++ (x ∷ [])) m) (countsOf (withNodes (m .nodes ++ (x ∷ [])) m)) w′ f′
-  add-node x c r a free ew ef = record { counts = refl; words = more-node-words (h .words) x c r a free ew; numbers = more-node-numbers (h .words .known) (h .numbers) x c r ef }
+  add-node x c r a ew ef = record { counts = refl; words = more-node-words (h .words) x c r a ew; numbers = more-node-numbers (h .words .known) (h .numbers) x c r ef }
 
-  pub add-link : {w′ : List ℕ} {f′ : List Float} {n : ℕ} (x : Link) → n ≡ length (m .links) → n < roomLinks → Sits text (x .id) → lookup (linkIds m) (x .id .letters) ≡ Nowhere
+  pub add-link : {w′ : List ℕ} {f′ : List Float} {n : ℕ} (x : Link) → n ≡ length (m .links) → n < roomLinks → Sits text (x .id)
       → w′ ≡ splice w (linksAt + n * linkSize) (linkWords x) → f′ ≡ splice f (linkNumbersAt + n * linkNumbersSize) (linkNumbers x) → Holds text (withLinks (m .links ++ (x ∷ [])) m) (countsOf (withLinks (m .links ++ (x ∷ [])) m)) w′ f′
-  add-link x c r a free ew ef = record { counts = refl; words = more-link-words (h .words) x c r a free ew; numbers = more-link-numbers (h .words .known) (h .numbers) x c r ef }
+  add-link x c r a ew ef = record { counts = refl; words = more-link-words (h .words) x c r a ew; numbers = more-link-numbers (h .words .known) (h .numbers) x c r ef }
 
   pub add-curve : {w′ : List ℕ} {n : ℕ} (x : Name) → n ≡ length (m .curves) → n < roomCurves → Sits text x → w′ ≡ splice w (curvesAt + n * idSize) (idWords x) → Holds text (withCurves (m .curves ++ (x ∷ [])) m) (countsOf (withCurves (m .curves ++ (x ∷ [])) m)) w′ f
   add-curve x c r a ew = record { counts = refl; words = more-curve-words (h .words) x c r a ew; numbers = curves-apart (h .numbers) (m .curves ++ (x ∷ [])) }
@@ -306,25 +304,25 @@ module _ {text : List ℕ} {m : Network} {s : Counts} {w : List ℕ} {f : List F
       }
 
   -- a node changed in some words and some numbers, in some numbers alone, in some words alone
-  pub change-node : {w′ : List ℕ} {f′ : List Float} (i : ℕ) (x0 x : Node) (off : ℕ) (part : List ℕ) (offN : ℕ) (partN : List Float) → i < length (m .nodes) → NodeFine text x → x .id ≡ getD (m .nodes) i x0 .id
+  pub change-node : {w′ : List ℕ} {f′ : List Float} (i : ℕ) (x0 x : Node) (off : ℕ) (part : List ℕ) (offN : ℕ) (partN : List Float) → i < length (m .nodes) → NodeFine text x
       → off + length part ≤ nodeSize → nodeWords x ≡ splice (nodeWords (getD (m .nodes) i x0)) off part
       → offN + length partN ≤ nodeNumbersSize → nodeNumbers x ≡ splice (nodeNumbers (getD (m .nodes) i x0)) offN partN
       → w′ ≡ splice w (nodesAt + i * nodeSize + off) part → f′ ≡ splice f (nodeNumbersAt + i * nodeNumbersSize + offN) partN
       → Holds text (withNodes (set (m .nodes) i x) m) (countsOf (withNodes (set (m .nodes) i x) m)) w′ f′
-  change-node i x0 x off part offN partN hi a same hp q hN qN ew ef =
-      record { counts = refl; words = part-node-words (h .words) i off part x0 x hi hp a same q ew; numbers = part-node-numbers (h .words .known) (h .numbers) i offN partN x0 x hi hN qN ef }
+  change-node i x0 x off part offN partN hi a hp q hN qN ew ef =
+      record { counts = refl; words = part-node-words (h .words) i off part x0 x hi hp a q ew; numbers = part-node-numbers (h .words .known) (h .numbers) i offN partN x0 x hi hN qN ef }
 
-  pub change-node-numbers : {f′ : List Float} (i : ℕ) (x0 x : Node) (off : ℕ) (part : List Float) → i < length (m .nodes) → NodeFine text x → x .id ≡ getD (m .nodes) i x0 .id → nodeWords x ≡ nodeWords (getD (m .nodes) i x0)
+  pub change-node-numbers : {f′ : List Float} (i : ℕ) (x0 x : Node) (off : ℕ) (part : List Float) → i < length (m .nodes) → NodeFine text x → nodeWords x ≡ nodeWords (getD (m .nodes) i x0)
       → off + length part ≤ nodeNumbersSize → nodeNumbers x ≡ splice (nodeNumbers (getD (m .nodes) i x0)) off part → f′ ≡ splice f (nodeNumbersAt + i * nodeNumbersSize + off) part
       → Holds text (withNodes (set (m .nodes) i x) m) (countsOf (withNodes (set (m .nodes) i x) m)) w f′
-  change-node-numbers i x0 x off part hi a same q hN qN ef =
-      record { counts = refl; words = alike-node-words (h .words) i x0 x a same q; numbers = part-node-numbers (h .words .known) (h .numbers) i off part x0 x hi hN qN ef }
+  change-node-numbers i x0 x off part hi a q hN qN ef =
+      record { counts = refl; words = alike-node-words (h .words) i x0 x a q; numbers = part-node-numbers (h .words .known) (h .numbers) i off part x0 x hi hN qN ef }
 
-  pub change-node-words : {w′ : List ℕ} (i : ℕ) (x0 x : Node) (off : ℕ) (part : List ℕ) → i < length (m .nodes) → NodeFine text x → x .id ≡ getD (m .nodes) i x0 .id
+  pub change-node-words : {w′ : List ℕ} (i : ℕ) (x0 x : Node) (off : ℕ) (part : List ℕ) → i < length (m .nodes) → NodeFine text x
       → off + length part ≤ nodeSize → nodeWords x ≡ splice (nodeWords (getD (m .nodes) i x0)) off part → nodeNumbers x ≡ nodeNumbers (getD (m .nodes) i x0)
       → w′ ≡ splice w (nodesAt + i * nodeSize + off) part → Holds text (withNodes (set (m .nodes) i x) m) (countsOf (withNodes (set (m .nodes) i x) m)) w′ f
-  change-node-words i x0 x off part hi a same hp q qN ew =
-      record { counts = refl; words = part-node-words (h .words) i off part x0 x hi hp a same q ew; numbers = alike-node-numbers (h .words .known) (h .numbers) i x0 x qN }
+  change-node-words i x0 x off part hi a hp q qN ew =
+      record { counts = refl; words = part-node-words (h .words) i off part x0 x hi hp a q ew; numbers = alike-node-numbers (h .words .known) (h .numbers) i x0 x qN }
 
   -- a demand overwritten, and one changed in some words alone
   pub change-demand : {w′ : List ℕ} {f′ : List Float} (i : ℕ) (x0 x : Demand) → i < length (m .demands) → SitsOr text (x .pattern)

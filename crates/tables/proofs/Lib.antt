@@ -2,7 +2,6 @@
 pub mod RegionLaws
 pub mod BlockLaws
 pub mod SizeLaws
-pub mod ApartLaws
 pub mod HoldLaws
 pub mod EmptyLaws
 pub mod ReadLaws

@@ -8,7 +8,7 @@ use lib.ListN.{length, getD}
 use lib.Ieee.{Float}
 use Rattle.fields.specs.Fields.{Name, part}
 pub use Rattle.fields.specs.Fields.{optIn, MayFit}
-use Rattle.scope.specs.Records.{Network, Node, NodeKind, junction, reservoir, tank, Link, LinkKind, pipe, pump, valve, Point, Multiplier, Demand, Rule, Clause, zeroF, countsOf, noName, lookup, nodeIds, linkIds}
+use Rattle.scope.specs.Records.{Network, Node, NodeKind, junction, reservoir, tank, Link, LinkKind, pipe, pump, valve, Point, Multiplier, Demand, Rule, Clause, zeroF, countsOf, noName}
 use Rattle.scope.specs.Values.{Read, good, bad}
 use Rattle.scope.specs.Sections.{roomNodes, roomLinks, roomCurves, roomPoints, roomPatterns, roomMultipliers, roomDemands, roomRules, roomClauses}
 use Rattle.scope.specs.Tables.{keyOf, blocks, wordBlocks, numberBlocks}
@@ -66,10 +66,6 @@ RuleFine text r = Sits text (r .id)
 abbrev pub ClauseFine : Clause → Type 0
 ClauseFine c = Unit
 
--- no two names have the same letters: each is found where it stands
-abbrev pub Apart : List Name → Type 0
-Apart ns = (i : ℕ) → i < length ns → lookup ns (getD ns i noName .letters) ≡ At i
-
 pub record Known (text : List ℕ) (m : Network) : Type 0 where
   pub nodes : Part (NodeFine text) roomNodes (m .nodes)
   pub links : Part (LinkFine text) roomLinks (m .links)
@@ -81,8 +77,6 @@ pub record Known (text : List ℕ) (m : Network) : Type 0 where
   pub times : length (m .times) ≡ 6
   pub rules : Part (RuleFine text) roomRules (m .rules)
   pub clauses : Part ClauseFine roomClauses (m .clauses)
-  pub nodesApart : Apart (nodeIds m)
-  pub linksApart : Apart (linkIds m)
 
 -- ---- what the tables hold
 pub record Words (text : List ℕ) (m : Network) (w : List ℕ) : Type 0 where

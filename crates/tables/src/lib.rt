@@ -11,7 +11,7 @@ ghost use Rattle.scope.specs.Series.{placeIn};
 ghost use Rattle.scope.specs.Tables.{keyOf, idWords, nameWords, flag, indexNo, pipeStatusNo, statusNo, typeNo, targetNo, comparisonNo, operatorNo, valueNo, valueNumber};
 ghost use Rattle.scope.specs.declared.Target.the-variants as target;
 ghost use Rattle.tables.specs.Table.{splice};
-ghost use Rattle.tables.specs.Holding.{optIn, Words, Row, Rows, SomeRow, SomeRows, Keyed, OtherKeys, Apart, Below, isJunction};
+ghost use Rattle.tables.specs.Holding.{optIn, Words, Row, Rows, SomeRow, SomeRows, Keyed, OtherKeys, Below, isJunction};
 use fields::Field;
 use fields::Span;
 use scope::Comparison;
@@ -230,58 +230,18 @@ fn find_name(
     }
 }
 
-// Where a row with the key stands if the rows stand in the order of their keys, as they do where ids count up. It is only tried: any number will do.
-fn guessed(words: &[u64], base: usize, stride: usize, count: usize, key: u64) -> usize
-    requires { ⌜ Keyed (now words) base stride count ⌝ }
-    ensures { λ r. ⌜ r ≤ count ⌝ }
-{
-    let mut low = 0;
-    let mut high = count;
-    while low < high {
-        let middle = low + (high - low) / 2;
-        if words[base + middle * stride + 2] < key {
-            low = middle + 1;
-        } else {
-            high = middle;
-        }
-    }
-    low
-}
-
-// The one of `count` rows that has the name, where no two have the same: the row where it should stand, else the first.
-fn find_apart(
-    text: &[u8],
-    words: &[u64],
-    base: usize,
-    stride: usize,
-    count: usize,
-    name: &[u8],
-) -> Found
-    requires { ⌜ SomeRows (now text) (now words) base stride count ⌝ }
-    ensures { λ r. ⌜ ((ns : List Name) → count ≡ length ns → Rows (now (text .entry)) (now (words .entry)) base stride ns → Apart ns → r ≡ lookup ns (now (name .entry))) ⌝ }
-{
-    let key = name_key(name);
-    let i = guessed(words, base, stride, count, key);
-    if i < count {
-        if row_is(text, words, base + i * stride, key, name) {
-            return Found::At(i);
-        }
-    }
-    find_name(text, words, base, stride, count, name)
-}
-
 pub fn find_node(text: &[u8], words: &[u64], count: usize, name: &[u8]) -> Found
     requires { ⌜ ((m : Network) × Words (now text) m (now words) × (count ≡ length (m .nodes))) ⌝ }
     ensures { λ r. ⌜ ((m : Network) → Words (now (text .entry)) m (now (words .entry)) → count ≡ length (m .nodes) → r ≡ lookup (nodeIds m) (now (name .entry))) ⌝ }
 {
-    find_apart(text, words, NODES, NODE_WORDS, count, name)
+    find_name(text, words, NODES, NODE_WORDS, count, name)
 }
 
 pub fn find_link(text: &[u8], words: &[u64], count: usize, name: &[u8]) -> Found
     requires { ⌜ ((m : Network) × Words (now text) m (now words) × (count ≡ length (m .links))) ⌝ }
     ensures { λ r. ⌜ ((m : Network) → Words (now (text .entry)) m (now (words .entry)) → count ≡ length (m .links) → r ≡ lookup (linkIds m) (now (name .entry))) ⌝ }
 {
-    find_apart(text, words, LINKS, LINK_WORDS, count, name)
+    find_name(text, words, LINKS, LINK_WORDS, count, name)
 }
 
 pub fn find_curve(text: &[u8], words: &[u64], count: usize, name: &[u8]) -> Found
