@@ -19,20 +19,21 @@ use Rattle.fields.specs.declared.Field.the-variants.{Taken, Nothing}
 use Rattle.scope.specs.Records.{Network, NodeKind, junction, reservoir, tank, Demand, noNode, lookup, nodeIds}
 use Rattle.scope.specs.Sections.{roomDemands}
 use Rattle.scope.specs.Series.{demandAt, ownFrom, addDemand, setDemand}
-use Rattle.scope.specs.Tables.{flag, nameWords, demandWords}
+use Rattle.scope.specs.Tables.{flag, nameWords, demandWords, recordWords}
 use Rattle.scope.specs.declared.Counts.{Counts}
 use Rattle.scope.specs.declared.Found.the-variants.{At, Nowhere}
 use Rattle.scope.specs.declared.Reason.the-variants.{NotFound, WrongKind, Full}
 use Rattle.takers.specs.Taking.{optIn, MayFit}
 use Rattle.tables.specs.Table.{splice}
 use Rattle.tables.specs.Layout.{demandsAt, demandSize, demandNumbersAt}
-use Rattle.tables.specs.Holding.{SitsOr, Words, Holds, After, noDemand, isJunction}
+use Rattle.tables.specs.Holding.{SitsOr, Words, Holds, After, InTable, OtherWords, noDemand, isJunction}
 use Rattle.tables.specs.declared.Kept.{Kept}
 use Rattle.tables.specs.declared.Kept.the-variants.{Stored, Refused}
 use Rattle.tables.proofs.HoldLaws.{sits-field, add-demand, change-demand, same-count-demands, count-demands}
 use Rattle.tables.proofs.LookLaws.{found-below}
 use Rattle.tables.proofs.ReadLaws.{demand-word, node-count}
-use Rattle.series.specs.Storing.{isOwn, OfOthers}
+use Rattle.tables.proofs.WalkLaws.{Passed}
+use Rattle.series.specs.Storing.{isOwn}
 
 -- ---- one demand
 own-flag : (b : Bool) → eqb (flag b) 1 ≡ b
@@ -68,40 +69,12 @@ module _ (ds : List Demand) (k node : ℕ) where
   own-end h = rw (drop-of-length-le ds {i = k} h)
 
 -- ---- the walk to the next demand of a node
-abbrev pub Passed : List ℕ → ℕ → ℕ → ℕ → ℕ → Type 0
-Passed w node from demands k = (from ≤ k) × (k ≤ demands) × OfOthers w node from k
-
-module _ (w : List ℕ) (node from demands : ℕ) where
-  pub none-passed : from ≤ demands → Passed w node from demands from
-  none-passed h = (omega arith, h, λ j a b e. omega arith)
-
-  pass-row : (k at r : ℕ) → Passed w node from demands k → k < demands → at ≡ demandsAt + k * demandSize → (getD w at 0 ≡ node → ⊥) → r ≡ k + 1 → Passed w node from demands r
-  pass-row k at r g h q n e = (
-    omega (arith, g .0),
-    omega arith,
-    λ j a b v.
-        let before : j < k → ⊥ = λ l. g .2 j a l v in
-        let here : j ≡ k → ⊥ = λ z. n (ap (λ (x : ℕ). getD w x 0) (rw (q, z)) ∙ v) in
-        omega (arith, before, here),
-  )
-
-  module _ (k : ℕ) (g : Passed w node from demands k) (room : k + 4 ≤ demands) (n0 : getD w (demandsAt + k * demandSize) 0 ≡ node → ⊥) where
-    pub one-passed : Passed w node from demands (k + 1)
-    one-passed = pass-row k (demandsAt + k * demandSize) (k + 1) g (omega arith) refl n0 refl
-
-    module _ (n1 : getD w (demandsAt + k * demandSize + demandSize) 0 ≡ node → ⊥) where
-      pub two-passed : Passed w node from demands (k + 2)
-      two-passed = pass-row (k + 1) (demandsAt + k * demandSize + demandSize) (k + 2) one-passed (omega arith) (omega arith) n1 (omega arith)
-
-      module _ (n2 : getD w (demandsAt + k * demandSize + 2 * demandSize) 0 ≡ node → ⊥) where
-        pub three-passed : Passed w node from demands (k + 3)
-        three-passed = pass-row (k + 2) (demandsAt + k * demandSize + 2 * demandSize) (k + 3) two-passed (omega arith) (omega arith) n2 (omega arith)
-
-        pub four-passed : (getD w (demandsAt + k * demandSize + 3 * demandSize) 0 ≡ node → ⊥) → Passed w node from demands (k + 4)
-        four-passed n3 = pass-row (k + 3) (demandsAt + k * demandSize + 3 * demandSize) (k + 4) three-passed (omega arith) (omega arith) n3 (omega arith)
+-- the demands' nodes are in the table
+pub demands-inside : (w : List ℕ) (demands : ℕ) → demands ≤ 512 → length w ≡ recordWords → InTable w demandsAt demandSize demands
+demands-inside w demands h e j b = omega (arith, e)
 
 -- demands of other nodes are none of the node's own
-own-past : {text : List ℕ} {m : Network} {w : List ℕ} → Words text m w → (node a n : ℕ) → a + n ≤ length (m .demands) → OfOthers w node a (a + n)
+own-past : {text : List ℕ} {m : Network} {w : List ℕ} → Words text m w → (node a n : ℕ) → a + n ≤ length (m .demands) → OtherWords w demandsAt demandSize node a (a + n)
     → ownFrom a node (drop a (m .demands)) ≡ ownFrom (a + n) node (drop (a + n) (m .demands))
 own-past hw node a zero h o = rw add-zero
 own-past {text} {m} hw node a (suc n) h o =
@@ -120,7 +93,7 @@ module _ (w : List ℕ) (demands node : ℕ) where
   start-search = record { upto = omega arith; left = λ text m hw e. refl }
 
   module _ {k : ℕ} (g : Searched w demands node k) where
-    pub past-search : (r : ℕ) → Passed w node k demands r → Searched w demands node r
+    pub past-search : (r : ℕ) → Passed w demandsAt demandSize node k demands r → Searched w demands node r
     past-search r p = record {
       upto = p .1;
       left = λ text m hw e.

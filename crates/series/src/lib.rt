@@ -14,7 +14,7 @@ ghost use Rattle.takers.specs.Taking.{optIn, MayFit};
 ghost use Rattle.tables.specs.Table.{splice};
 ghost use Rattle.tables.specs.Layout.{pointsAt, multipliersAt, demandsAt, demandSize, pointNumbersAt, pointNumbersSize, multiplierNumbersAt, demandNumbersAt};
 ghost use Rattle.tables.specs.Holding.{Words, Numbers, Holds, Sound, After, noDemand};
-ghost use Rattle.series.specs.Storing.{isOwn, OfOthers};
+ghost use Rattle.series.specs.Storing.{isOwn};
 use scope::Counts;
 use scope::Found;
 use scope::Reason;
@@ -220,35 +220,6 @@ fn is_own(words: &[u64], k: usize, node: usize) -> bool
     false
 }
 
-// The first demand from number `from` on that may be of the node: those before it are of others. Four are looked at in a turn, and where fewer are left it stops.
-fn next_of_node(words: &[u64], from: usize, demands: usize, node: usize) -> usize
-    requires { ⌜ (from ≤ demands) × (demands ≤ roomDemands) × (length (now words) ≡ recordWords) ⌝ }
-    ensures { λ r. ⌜ (from ≤ r) × (r ≤ demands) × OfOthers (now (words .entry)) node from r ⌝ }
-{
-    if demands < 4 {
-        return from;
-    }
-    let last = demands - 4; // the last one with three after it
-    let mut k = from;
-    while k <= last {
-        let row = tables::DEMANDS + k * tables::DEMAND_WORDS;
-        if words[row] == node as u64 {
-            return k;
-        }
-        if words[row + tables::DEMAND_WORDS] == node as u64 {
-            return k + 1;
-        }
-        if words[row + 2 * tables::DEMAND_WORDS] == node as u64 {
-            return k + 2;
-        }
-        if words[row + 3 * tables::DEMAND_WORDS] == node as u64 {
-            return k + 3;
-        }
-        k += 4;
-    }
-    k
-}
-
 // The place of the demand of the junction's own line, if it stands still.
 fn own_demand(words: &[u64], demands: usize, node: usize) -> Found
     requires { ⌜ (demands ≤ roomDemands) × (length (now words) ≡ recordWords) ⌝ }
@@ -256,7 +227,14 @@ fn own_demand(words: &[u64], demands: usize, node: usize) -> Found
 {
     let mut k = 0;
     loop {
-        k = next_of_node(words, k, demands, node);
+        k = tables::next_with_word(
+            words,
+            tables::DEMANDS,
+            tables::DEMAND_WORDS,
+            k,
+            demands,
+            node as u64,
+        );
         if demands <= k {
             return Found::Nowhere;
         }

@@ -121,13 +121,14 @@ pub record SomeRows (text w : List ℕ) (base stride count : ℕ) : Type 0 where
   pub long : count ≡ length names
   pub rows : Rows text w base stride names
 
--- the keys of `count` rows are in the table
-abbrev pub Keyed : List ℕ → ℕ → ℕ → ℕ → Type 0
-Keyed w base stride count = (j : ℕ) → j < count → base + j * stride + 2 < length w
+-- ---- one word of each row: that of row i is at first + i * stride
+-- those of `count` rows are in the table
+abbrev pub InTable : List ℕ → ℕ → ℕ → ℕ → Type 0
+InTable w first stride count = (j : ℕ) → j < count → first + j * stride < length w
 
--- the rows from number a on and before number b have other keys
-abbrev pub OtherKeys : List ℕ → ℕ → ℕ → ℕ → ℕ → ℕ → Type 0
-OtherKeys w base stride key a b = (j : ℕ) → a ≤ j → j < b → getD w (base + j * stride + 2) 0 ≡ key → ⊥
+-- those of the rows from number a on and before number b are others
+abbrev pub OtherWords : List ℕ → ℕ → ℕ → ℕ → ℕ → ℕ → Type 0
+OtherWords w first stride word a b = (j : ℕ) → a ≤ j → j < b → getD w (first + j * stride) 0 ≡ word → ⊥
 
 -- ---- small things
 -- a place that was found is below n

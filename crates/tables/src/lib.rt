@@ -11,7 +11,7 @@ ghost use Rattle.scope.specs.Series.{placeIn};
 ghost use Rattle.scope.specs.Tables.{keyOf, idWords, nameWords, flag, indexNo, pipeStatusNo, statusNo, typeNo, targetNo, comparisonNo, operatorNo, valueNo, valueNumber};
 ghost use Rattle.scope.specs.declared.Target.the-variants as target;
 ghost use Rattle.tables.specs.Table.{splice};
-ghost use Rattle.tables.specs.Holding.{optIn, Words, Row, Rows, SomeRow, SomeRows, Keyed, OtherKeys, Below, isJunction};
+ghost use Rattle.tables.specs.Holding.{optIn, Words, Row, Rows, SomeRow, SomeRows, InTable, OtherWords, Below, isJunction};
 use fields::Field;
 use fields::Span;
 use scope::Comparison;
@@ -167,17 +167,18 @@ fn row_is(text: &[u8], words: &[u64], row: usize, key: u64, name: &[u8]) -> bool
     fields::equal(&text[a..e], name)
 }
 
-// The first row from number `from` on that may have the key: those before it have another. Four are looked at in a turn, and where fewer are left it stops.
-fn next_with_key(
+// The first row from number `from` on that may have the word: those before it have another at that place. Four are looked at in a turn, and where fewer are
+// left it stops. `first` is where the word of row 0 stands.
+pub fn next_with_word(
     words: &[u64],
-    base: usize,
+    first: usize,
     stride: usize,
     from: usize,
     count: usize,
-    key: u64,
+    word: u64,
 ) -> usize
-    requires { ⌜ (from ≤ count) × Keyed (now words) base stride count ⌝ }
-    ensures { λ r. ⌜ (from ≤ r) × (r ≤ count) × OtherKeys (now (words .entry)) base stride key from r ⌝ }
+    requires { ⌜ (from ≤ count) × InTable (now words) first stride count ⌝ }
+    ensures { λ r. ⌜ (from ≤ r) × (r ≤ count) × OtherWords (now (words .entry)) first stride word from r ⌝ }
 {
     if count < 4 {
         return from;
@@ -185,17 +186,17 @@ fn next_with_key(
     let last = count - 4; // the last one with three after it
     let mut i = from;
     while i <= last {
-        let at = base + i * stride + 2;
-        if words[at] == key {
+        let at = first + i * stride;
+        if words[at] == word {
             return i;
         }
-        if words[at + stride] == key {
+        if words[at + stride] == word {
             return i + 1;
         }
-        if words[at + 2 * stride] == key {
+        if words[at + 2 * stride] == word {
             return i + 2;
         }
-        if words[at + 3 * stride] == key {
+        if words[at + 3 * stride] == word {
             return i + 3;
         }
         i += 4;
@@ -212,13 +213,13 @@ fn find_name(
     count: usize,
     name: &[u8],
 ) -> Found
-    requires { ⌜ SomeRows (now text) (now words) base stride count ⌝ }
+    requires { ⌜ SomeRows (now text) (now words) base stride count × (base < 65536) ⌝ }
     ensures { λ r. ⌜ ((ns : List Name) → count ≡ length ns → Rows (now (text .entry)) (now (words .entry)) base stride ns → r ≡ lookup ns (now (name .entry))) ⌝ }
 {
     let key = name_key(name);
     let mut i = 0;
     loop {
-        i = next_with_key(words, base, stride, i, count, key);
+        i = next_with_word(words, base + 2, stride, i, count, key);
         if count <= i {
             return Found::Nowhere;
         }

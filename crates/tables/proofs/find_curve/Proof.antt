@@ -1,3 +1,4 @@
+use native.Mathlib.Omega.{arith}
 use Rattle.tables.proofs.ReadLaws.{curve-rows}
 use Rattle.tables.proofs.find_curve.Statement.{statement}
 use Rattle.tables.proofs.find_curve.Tie as tie
@@ -8,7 +9,7 @@ use Rattle.tables.proofs.find_name.Reads as find-name-reads
 find-name-requires : tie.Need-find-name-requires
 find-name-requires c κs =
     let p = c .before .before .before .pre in
-    record { names = (p .0) .curves; long = p .2; rows = curve-rows (p .1) }
+    (record { names = (p .0) .curves; long = p .2; rows = curve-rows (p .1) }, omega arith)
 
 returns : tie.Need-returns
 returns c = λ m h e. c .find-name .ensures (m .curves) (e) (curve-rows h)

@@ -1,3 +1,4 @@
+use native.Mathlib.Omega.{arith}
 use Rattle.tables.proofs.ReadLaws.{pattern-rows}
 use Rattle.tables.proofs.find_pattern.Statement.{statement}
 use Rattle.tables.proofs.find_pattern.Tie as tie
@@ -8,7 +9,7 @@ use Rattle.tables.proofs.find_name.Reads as find-name-reads
 find-name-requires : tie.Need-find-name-requires
 find-name-requires c κs =
     let p = c .before .before .before .pre in
-    record { names = (p .0) .patterns; long = p .2; rows = pattern-rows (p .1) }
+    (record { names = (p .0) .patterns; long = p .2; rows = pattern-rows (p .1) }, omega arith)
 
 returns : tie.Need-returns
 returns c = λ m h e. c .find-name .ensures (m .patterns) (e) (pattern-rows h)

@@ -1,3 +1,4 @@
+use native.Mathlib.Omega.{arith}
 use mathlib.Core.Path.{_∙_}
 use Rattle.scope.specs.Records.{ruleIds}
 use Rattle.tables.proofs.ReadLaws.{rule-rows, rule-count}
@@ -10,7 +11,7 @@ use Rattle.tables.proofs.find_name.Reads as find-name-reads
 find-name-requires : tie.Need-find-name-requires
 find-name-requires c κs =
     let p = c .before .before .before .pre in
-    record { names = ruleIds (p .0); long = p .2 ∙ rule-count (p .0); rows = rule-rows (p .1) }
+    (record { names = ruleIds (p .0); long = p .2 ∙ rule-count (p .0); rows = rule-rows (p .1) }, omega arith)
 
 returns : tie.Need-returns
 returns c = λ m h e. c .find-name .ensures (ruleIds m) (e ∙ rule-count m) (rule-rows h)
