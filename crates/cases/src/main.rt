@@ -81,5 +81,5 @@ fn replay(all: &[u8]) {
 fn main() {
     let mut buffer = [0u8; 262144];
     let n = io::read_full(0, &mut buffer);
-    replay(fields::cut(&buffer, 0, n));
+    replay(letters::cut(&buffer, 0, n));
 }

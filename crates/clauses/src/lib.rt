@@ -6,7 +6,7 @@ ghost use mathlib.Core.List.{[]};
 ghost use Prim.Native.Nat.{ℕ};
 ghost use Rattle.decimals.specs.Numbers.{numberOf};
 ghost use Rattle.fields.specs.Fields.{fieldsAt};
-ghost use Rattle.fields.specs.Words.{same};
+ghost use Rattle.letters.specs.Words.{same};
 ghost use Rattle.scope.specs.Records.{LinkKind};
 ghost use Rattle.scope.specs.Values.{asNumber, onRead, asTime};
 ghost use Rattle.clock.specs.Times.{timeOf};
@@ -32,10 +32,10 @@ use scope::Value;
 fn either<'a>(w: &'a [u8], a: &'a [u8], b: &'a [u8]) -> bool
     ensures { λ r. ⌜ r ≡ (same (now (w .entry)) (now (a .entry)) || same (now (w .entry)) (now (b .entry))) ⌝ }
 {
-    if fields::equal(w, a) {
+    if letters::equal(w, a) {
         return true;
     }
-    fields::equal(w, b)
+    letters::equal(w, b)
 }
 
 // ---- the target of a condition
@@ -49,13 +49,13 @@ pub enum AttributeRead {
 fn system_target(w: &[u8]) -> AttributeRead
     ensures { λ r. ⌜ attributeRead r ≡ systemTarget (now (w .entry)) ⌝ }
 {
-    if fields::equal(w, b"DEMAND") {
+    if letters::equal(w, b"DEMAND") {
         return AttributeRead::Known(Target::System(SystemAttribute::Demand));
     }
-    if fields::equal(w, b"TIME") {
+    if letters::equal(w, b"TIME") {
         return AttributeRead::Known(Target::System(SystemAttribute::Time));
     }
-    if fields::equal(w, b"CLOCKTIME") {
+    if letters::equal(w, b"CLOCKTIME") {
         return AttributeRead::Known(Target::System(SystemAttribute::ClockTime));
     }
     AttributeRead::Unknown
@@ -64,13 +64,13 @@ fn system_target(w: &[u8]) -> AttributeRead
 fn node_target(w: &[u8]) -> AttributeRead
     ensures { λ r. ⌜ attributeRead r ≡ nodeTarget (now (w .entry)) ⌝ }
 {
-    if fields::equal(w, b"DEMAND") {
+    if letters::equal(w, b"DEMAND") {
         return AttributeRead::Known(Target::Node(NodeAttribute::Demand));
     }
-    if fields::equal(w, b"HEAD") {
+    if letters::equal(w, b"HEAD") {
         return AttributeRead::Known(Target::Node(NodeAttribute::Head));
     }
-    if fields::equal(w, b"PRESSURE") {
+    if letters::equal(w, b"PRESSURE") {
         return AttributeRead::Known(Target::Node(NodeAttribute::Pressure));
     }
     AttributeRead::Unknown
@@ -79,13 +79,13 @@ fn node_target(w: &[u8]) -> AttributeRead
 fn tank_target(w: &[u8]) -> AttributeRead
     ensures { λ r. ⌜ attributeRead r ≡ tankTarget (now (w .entry)) ⌝ }
 {
-    if fields::equal(w, b"LEVEL") {
+    if letters::equal(w, b"LEVEL") {
         return AttributeRead::Known(Target::Tank(TankAttribute::Level));
     }
-    if fields::equal(w, b"FILLTIME") {
+    if letters::equal(w, b"FILLTIME") {
         return AttributeRead::Known(Target::Tank(TankAttribute::FillTime));
     }
-    if fields::equal(w, b"DRAINTIME") {
+    if letters::equal(w, b"DRAINTIME") {
         return AttributeRead::Known(Target::Tank(TankAttribute::DrainTime));
     }
     AttributeRead::Unknown
@@ -94,13 +94,13 @@ fn tank_target(w: &[u8]) -> AttributeRead
 fn link_target(w: &[u8]) -> AttributeRead
     ensures { λ r. ⌜ attributeRead r ≡ linkTarget (now (w .entry)) ⌝ }
 {
-    if fields::equal(w, b"FLOW") {
+    if letters::equal(w, b"FLOW") {
         return AttributeRead::Known(Target::Link(LinkAttribute::Flow));
     }
-    if fields::equal(w, b"STATUS") {
+    if letters::equal(w, b"STATUS") {
         return AttributeRead::Known(Target::Link(LinkAttribute::Status));
     }
-    if fields::equal(w, b"SETTING") {
+    if letters::equal(w, b"SETTING") {
         return AttributeRead::Known(Target::Link(LinkAttribute::Setting));
     }
     AttributeRead::Unknown
@@ -182,16 +182,16 @@ fn named_from(l: &[u8], at: usize, kind: Named) -> TargetRead
 fn is_link_word(w: &[u8]) -> bool
     ensures { λ r. ⌜ r ≡ isLinkWord (now (w .entry)) ⌝ }
 {
-    if fields::equal(w, b"LINK") {
+    if letters::equal(w, b"LINK") {
         return true;
     }
-    if fields::equal(w, b"PIPE") {
+    if letters::equal(w, b"PIPE") {
         return true;
     }
-    if fields::equal(w, b"VALVE") {
+    if letters::equal(w, b"VALVE") {
         return true;
     }
-    fields::equal(w, b"PUMP")
+    letters::equal(w, b"PUMP")
 }
 
 pub fn read_target(l: &[u8], at: usize) -> TargetRead
@@ -203,13 +203,13 @@ pub fn read_target(l: &[u8], at: usize) -> TargetRead
         return TargetRead::Refused(Reason::Missing);
     };
     let w = fields::letters_of(l, s);
-    if fields::equal(w, b"SYSTEM") {
+    if letters::equal(w, b"SYSTEM") {
         return system_from(l, s.end);
     }
-    if fields::equal(w, b"NODE") {
+    if letters::equal(w, b"NODE") {
         return named_from(l, s.end, Named::Node);
     }
-    if fields::equal(w, b"TANK") {
+    if letters::equal(w, b"TANK") {
         return named_from(l, s.end, Named::Tank);
     }
     if is_link_word(w) {
@@ -240,10 +240,10 @@ pub fn read_comparison(w: &[u8]) -> ComparisonRead
     if either(w, b"BELOW", b"<") {
         return ComparisonRead::Known(Comparison::Below);
     }
-    if fields::equal(w, b">=") {
+    if letters::equal(w, b">=") {
         return ComparisonRead::Known(Comparison::AtLeast);
     }
-    if fields::equal(w, b"<=") {
+    if letters::equal(w, b"<=") {
         return ComparisonRead::Known(Comparison::AtMost);
     }
     ComparisonRead::Unknown
@@ -313,13 +313,13 @@ pub fn read_value(target: Target, l: &[u8], at: usize) -> ValueRead
         return ValueRead::Refused(Reason::Missing);
     };
     let w = fields::letters_of(l, s);
-    if fields::equal(w, b"OPEN") {
+    if letters::equal(w, b"OPEN") {
         return ValueRead::Read(Value::Status(LinkStatus::Open));
     }
-    if fields::equal(w, b"CLOSED") {
+    if letters::equal(w, b"CLOSED") {
         return ValueRead::Read(Value::Status(LinkStatus::Closed));
     }
-    if fields::equal(w, b"ACTIVE") {
+    if letters::equal(w, b"ACTIVE") {
         return ValueRead::Read(Value::Status(LinkStatus::Active));
     }
     if is_time(target) {
@@ -422,16 +422,16 @@ fn of_kind(is: bool) -> KindRead
 pub fn kind_fits(w: &[u8], pipe: bool, pump: bool, valve: bool) -> KindRead
     ensures { λ r. ⌜ ((k : LinkKind) → pipe ≡ isPipe k → pump ≡ isPump k → valve ≡ isValve k → kindRead r ≡ kindFits (now (w .entry)) k) ⌝ }
 {
-    if fields::equal(w, b"LINK") {
+    if letters::equal(w, b"LINK") {
         return KindRead::Fits;
     }
-    if fields::equal(w, b"PIPE") {
+    if letters::equal(w, b"PIPE") {
         return of_kind(pipe);
     }
-    if fields::equal(w, b"VALVE") {
+    if letters::equal(w, b"VALVE") {
         return of_kind(valve);
     }
-    if fields::equal(w, b"PUMP") {
+    if letters::equal(w, b"PUMP") {
         return of_kind(pump);
     }
     KindRead::Refused(Reason::Unknown)
@@ -440,10 +440,10 @@ pub fn kind_fits(w: &[u8], pipe: bool, pump: bool, valve: bool) -> KindRead
 fn status_value(w: &[u8]) -> ValueRead
     ensures { λ r. ⌜ valueRead r ≡ statusValue (now (w .entry)) ⌝ }
 {
-    if fields::equal(w, b"OPEN") {
+    if letters::equal(w, b"OPEN") {
         return ValueRead::Read(Value::Status(LinkStatus::Open));
     }
-    if fields::equal(w, b"CLOSED") {
+    if letters::equal(w, b"CLOSED") {
         return ValueRead::Read(Value::Status(LinkStatus::Closed));
     }
     ValueRead::Refused(Reason::Unknown)
@@ -452,10 +452,10 @@ fn status_value(w: &[u8]) -> ValueRead
 fn deed<'a>(what: &'a [u8], value: &'a [u8]) -> ValueRead
     ensures { λ r. ⌜ ((at : ℕ) → valueRead r ≡ deedOf (now (what .entry)) (record { at = at; letters = now (value .entry) })) ⌝ }
 {
-    if fields::equal(what, b"STATUS") {
+    if letters::equal(what, b"STATUS") {
         return status_value(value);
     }
-    if fields::equal(what, b"SETTING") {
+    if letters::equal(what, b"SETTING") {
         return number_value(value);
     }
     ValueRead::Refused(Reason::Unknown)
@@ -473,7 +473,7 @@ pub fn read_deed(l: &[u8], at: usize) -> ValueRead
     let Field::Taken(is) = g else {
         return ValueRead::Refused(Reason::Missing);
     };
-    if fields::equal(fields::letters_of(l, is), b"IS") {
+    if letters::equal(fields::letters_of(l, is), b"IS") {
         let h = fields::next_field(l, is.end);
         let Field::Taken(v) = h else {
             return ValueRead::Refused(Reason::Missing);
@@ -499,25 +499,25 @@ pub enum RuleWord {
 pub fn rule_word(w: &[u8]) -> RuleWord
     ensures { λ r. ⌜ r ≡ ruleWord (now (w .entry)) ⌝ }
 {
-    if fields::equal(w, b"RULE") {
+    if letters::equal(w, b"RULE") {
         return RuleWord::Rule;
     }
-    if fields::equal(w, b"IF") {
+    if letters::equal(w, b"IF") {
         return RuleWord::If;
     }
-    if fields::equal(w, b"OR") {
+    if letters::equal(w, b"OR") {
         return RuleWord::Or;
     }
-    if fields::equal(w, b"THEN") {
+    if letters::equal(w, b"THEN") {
         return RuleWord::Then;
     }
-    if fields::equal(w, b"AND") {
+    if letters::equal(w, b"AND") {
         return RuleWord::And;
     }
-    if fields::equal(w, b"ELSE") {
+    if letters::equal(w, b"ELSE") {
         return RuleWord::Else;
     }
-    if fields::equal(w, b"PRIORITY") {
+    if letters::equal(w, b"PRIORITY") {
         return RuleWord::Priority;
     }
     RuleWord::Unknown

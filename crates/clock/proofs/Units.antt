@@ -4,7 +4,7 @@ use native.Mathlib.Omega.{arith}
 use mathlib.Core.Path.{_≡_, refl}
 use mathlib.Core.List.{List, [], _∷_}
 use lib.ListN.{length}
-use Rattle.fields.specs.Words.{same}
+use Rattle.letters.specs.Words.{same}
 use Rattle.clock.specs.declared.Unit.the-variants.{Hour}
 use Rattle.clock.specs.Times.{withoutS, unitWords, named, unitOf}
 

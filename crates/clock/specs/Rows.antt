@@ -6,7 +6,7 @@ use lib.Ieee.{mul, ofInt, div, neg}
 use Rattle.decimals.specs.Numbers.{numberOf}
 use Rattle.decimals.specs.Reach.{meaning}
 use Rattle.decimals.specs.Counts.{countOf}
-use Rattle.fields.specs.Words.{same}
+use Rattle.letters.specs.Words.{same}
 use Rattle.clock.specs.declared.Time.{Time}
 use Rattle.clock.specs.declared.Time.the-variants.{Seconds, Malformed, Beyond, UnknownUnit}
 use Rattle.clock.specs.Times.{colonAt, timeOf, timeAnswer}

@@ -12,7 +12,7 @@ use Rattle.decimals.specs.declared.Count.{Count}
 use Rattle.decimals.specs.declared.Count.the-variants.{Whole, Uncounted}
 use Rattle.decimals.specs.Numbers.{numberOf}
 use Rattle.decimals.specs.Counts.{countOf}
-use Rattle.fields.specs.Words.{spelled}
+use Rattle.letters.specs.Words.{spelled}
 use Rattle.clock.specs.declared.Time.{Time}
 use Rattle.clock.specs.declared.Time.the-variants.{Seconds, Malformed, Beyond, UnknownUnit}
 use Rattle.clock.specs.declared.Unit.{Unit}

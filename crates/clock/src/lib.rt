@@ -61,10 +61,10 @@ fn afternoon(h: u64) -> u64
 fn hour_of(h: u64, suffix: &[u8]) -> u64
     ensures { λ r. ⌜ r ≡ hourOf h (now (suffix .entry)) ⌝ }
 {
-    if fields::spells(suffix, b"AM") {
+    if letters::spells(suffix, b"AM") {
         return morning(h);
     }
-    if fields::spells(suffix, b"PM") {
+    if letters::spells(suffix, b"PM") {
         return afternoon(h);
     }
     h
@@ -100,11 +100,11 @@ fn without_s(unit: &[u8]) -> &[u8]
     if n == 0 {
         return unit;
     }
-    if fields::spells(unit, b"HOURS") {
+    if letters::spells(unit, b"HOURS") {
         return unit;
     }
     let last = n - 1;
-    if fields::spells(&unit[last..], b"S") {
+    if letters::spells(&unit[last..], b"S") {
         return &unit[..last];
     }
     unit
@@ -113,31 +113,31 @@ fn without_s(unit: &[u8]) -> &[u8]
 fn named(unit: &[u8]) -> Unit
     ensures { λ r. ⌜ r ≡ named unitWords (now (unit .entry)) ⌝ }
 {
-    if fields::spells(unit, b"HOUR") {
+    if letters::spells(unit, b"HOUR") {
         return Unit::Hour;
     }
-    if fields::spells(unit, b"HOURS") {
+    if letters::spells(unit, b"HOURS") {
         return Unit::Hour;
     }
-    if fields::spells(unit, b"MINUTE") {
+    if letters::spells(unit, b"MINUTE") {
         return Unit::Minute;
     }
-    if fields::spells(unit, b"MIN") {
+    if letters::spells(unit, b"MIN") {
         return Unit::Minute;
     }
-    if fields::spells(unit, b"SECOND") {
+    if letters::spells(unit, b"SECOND") {
         return Unit::Second;
     }
-    if fields::spells(unit, b"SEC") {
+    if letters::spells(unit, b"SEC") {
         return Unit::Second;
     }
-    if fields::spells(unit, b"DAY") {
+    if letters::spells(unit, b"DAY") {
         return Unit::Day;
     }
-    if fields::spells(unit, b"AM") {
+    if letters::spells(unit, b"AM") {
         return Unit::Am;
     }
-    if fields::spells(unit, b"PM") {
+    if letters::spells(unit, b"PM") {
         return Unit::Pm;
     }
     Unit::Unknown

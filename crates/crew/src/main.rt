@@ -84,7 +84,7 @@ fn heading(of: &[u8]) {
 
 // The number of the line that has the byte at `at`.
 fn line_of(text: &[u8], at: usize) -> u64 {
-    let before = fields::cut(text, 0, at);
+    let before = letters::cut(text, 0, at);
     let mut n = 0;
     let mut k = 0;
     while k < before.len() {
@@ -269,7 +269,7 @@ fn run() {
     let mut buffer = [0u8; ROOM_TEXT];
     let read = input::read_argument(b"crew", 1, &mut buffer);
     if let Input::Read(n) = read {
-        show(fields::cut(&buffer, 0, n));
+        show(letters::cut(&buffer, 0, n));
     }
 }
 

@@ -2,4 +2,4 @@
 pub mod ScanLaws
 pub mod LineLaws
 pub mod FieldLaws
-pub mod WordLaws
+pub mod TrimLaws

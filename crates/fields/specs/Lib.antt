@@ -1,5 +1,4 @@
 -- What the contracts of this crate cite.
 pub mod Lines
 pub mod Fields
-pub mod Words
 pub mod Scan

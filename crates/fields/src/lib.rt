@@ -1,11 +1,10 @@
-// Lines, fields and fixed words. A line is the caller's text up to the line's end, with the place where it starts: so every place is a place of the text.
+// Lines and fields. A line is the caller's text up to the line's end, with the place where it starts: so every place is a place of the text.
 ghost use mathlib.Core.Path.{_≡_};
 ghost use mathlib.Core.List.{[], _∷_};
 ghost use Prim.Native.Nat.{ℕ, _+_, _-_, _≤_, _<_};
 ghost use lib.ListN.{length, take, drop};
 ghost use Rattle.fields.specs.Lines.{isSpace, lineLen, endTrimmed, trimmed, lineKind, kindBy, cutOf};
 ghost use Rattle.fields.specs.Fields.{part, fieldsAt, lettersOr, Next, Past};
-ghost use Rattle.fields.specs.Words.{same, raised, spelled, begins};
 ghost use Rattle.fields.specs.Scan.{isKind, spanLen, has, Skips};
 use decimals::Class;
 
@@ -61,21 +60,6 @@ fn reach(l: &[u8], at: usize, k: Kind) -> usize
         }
     }
     i
-}
-
-// As much of the text from `at` on as there is, at most `n` bytes.
-pub fn cut(text: &[u8], at: usize, n: usize) -> &[u8]
-    ensures { λ r. ⌜ now r ≡ take n (drop at (now (text .entry))) ⌝ }
-{
-    let len = text.len();
-    if len < at {
-        return &text[len..];
-    }
-    if len - at < n {
-        return &text[at..];
-    }
-    let e = at + n;
-    &text[at..e]
 }
 
 // Whether the byte is one of the sixteen. All are looked at, so that the compiler can compare them at once.
@@ -165,9 +149,9 @@ pub fn trimmed(l: &[u8]) -> &[u8]
     ensures { λ r. ⌜ now r ≡ trimmed (now (l .entry)) ⌝ }
 {
     let a = reach(l, 0, Kind::Space);
-    let d = cut(l, a, l.len());
+    let d = letters::cut(l, a, l.len());
     let e = trim_end(d);
-    cut(d, 0, e)
+    letters::cut(d, 0, e)
 }
 
 // Where the line from `at` on is cut: at its first `;`.
@@ -196,9 +180,9 @@ pub fn letters_of(l: &[u8], s: Span) -> &[u8]
     ensures { λ r. ⌜ now r ≡ part (s .at) (s .end) (now (l .entry)) ⌝ }
 {
     if s.end < s.at {
-        return cut(l, s.at, 0);
+        return letters::cut(l, s.at, 0);
     }
-    cut(l, s.at, s.end - s.at)
+    letters::cut(l, s.at, s.end - s.at)
 }
 
 // The next field from `at` on.
@@ -233,57 +217,4 @@ pub fn field_or<'a>(l: &'a [u8], at: usize, other: &'a [u8]) -> &'a [u8]
         return other;
     };
     letters_of(l, s)
-}
-
-// ---- words
-
-// Whether two texts are the same.
-pub fn equal(a: &[u8], b: &[u8]) -> bool
-    ensures { λ r. ⌜ r ≡ same (now (a .entry)) (now (b .entry)) ⌝ }
-{
-    if a.len() != b.len() {
-        return false;
-    }
-    let mut i = 0;
-    while i < a.len() {
-        if a[i] != b[i] {
-            return false;
-        }
-        i += 1;
-    }
-    true
-}
-
-// A letter a to z raised.
-fn raise(b: u8) -> u8
-    ensures { λ r. ⌜ r ≡ raised b ⌝ }
-{
-    match b {
-        97..=122 => b - 32,
-        _ => b,
-    }
-}
-
-// Whether a text, its letters raised, is the word.
-pub fn spells(a: &[u8], w: &[u8]) -> bool
-    ensures { λ r. ⌜ r ≡ spelled (now (a .entry)) (now (w .entry)) ⌝ }
-{
-    if a.len() != w.len() {
-        return false;
-    }
-    let mut i = 0;
-    while i < a.len() {
-        if raise(a[i]) != w[i] {
-            return false;
-        }
-        i += 1;
-    }
-    true
-}
-
-// Whether a text begins with the word.
-pub fn starts_with(a: &[u8], w: &[u8]) -> bool
-    ensures { λ r. ⌜ r ≡ begins (now (a .entry)) (now (w .entry)) ⌝ }
-{
-    equal(cut(a, 0, w.len()), w)
 }

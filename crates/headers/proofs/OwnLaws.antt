@@ -10,7 +10,7 @@ use lib.Seq.{take-length, take-all}
 use Rattle.decimals.specs.Bytes.{classOf}
 use Rattle.fields.specs.Fields.{Name, part, fieldsOf, fieldsAt, Next}
 use Rattle.fields.specs.Lines.{chunks, joined, lineLen, startTrimmed, endTrimmed, trimmed, lineKind}
-use Rattle.fields.specs.Words.{begins}
+use Rattle.letters.specs.Words.{begins}
 use Rattle.fields.specs.Scan.{spanLen}
 use Rattle.fields.specs.declared.Span.{Span}
 use Rattle.fields.specs.declared.LineKind.{LineKind}
@@ -19,7 +19,7 @@ use Rattle.fields.specs.declared.Field.{Field}
 use Rattle.fields.specs.declared.Field.the-variants.{Taken, Nothing}
 use Rattle.fields.proofs.FieldLaws.{start-taken, start-nothing, drop-take, part-take}
 use Rattle.fields.proofs.LineLaws.{end-le, end-more, body-is, body-long, chunks-at, trimmed-start}
-use Rattle.fields.proofs.WordLaws.{begins-trimmed}
+use Rattle.fields.proofs.TrimLaws.{begins-trimmed}
 use Rattle.lines.specs.Reader as L
 use Rattle.lines.specs.Text.{Line}
 use Rattle.lines.specs.Stretch.{secBy, ownBy, secAfter}

@@ -15,43 +15,43 @@ use scope::Section;
 pub fn section_of(w: &[u8]) -> Section
     ensures { λ r. ⌜ r ≡ sectionOf (now (w .entry)) ⌝ }
 {
-    if fields::equal(w, b"[JUNCTIONS]") {
+    if letters::equal(w, b"[JUNCTIONS]") {
         return Section::Junctions;
     }
-    if fields::equal(w, b"[RESERVOIRS]") {
+    if letters::equal(w, b"[RESERVOIRS]") {
         return Section::Reservoirs;
     }
-    if fields::equal(w, b"[TANKS]") {
+    if letters::equal(w, b"[TANKS]") {
         return Section::Tanks;
     }
-    if fields::equal(w, b"[PIPES]") {
+    if letters::equal(w, b"[PIPES]") {
         return Section::Pipes;
     }
-    if fields::equal(w, b"[PUMPS]") {
+    if letters::equal(w, b"[PUMPS]") {
         return Section::Pumps;
     }
-    if fields::equal(w, b"[VALVES]") {
+    if letters::equal(w, b"[VALVES]") {
         return Section::Valves;
     }
-    if fields::equal(w, b"[CURVES]") {
+    if letters::equal(w, b"[CURVES]") {
         return Section::Curves;
     }
-    if fields::equal(w, b"[PATTERNS]") {
+    if letters::equal(w, b"[PATTERNS]") {
         return Section::Patterns;
     }
-    if fields::equal(w, b"[DEMANDS]") {
+    if letters::equal(w, b"[DEMANDS]") {
         return Section::Demands;
     }
-    if fields::equal(w, b"[EMITTERS]") {
+    if letters::equal(w, b"[EMITTERS]") {
         return Section::Emitters;
     }
-    if fields::equal(w, b"[COORDINATES]") {
+    if letters::equal(w, b"[COORDINATES]") {
         return Section::Coordinates;
     }
-    if fields::equal(w, b"[TIMES]") {
+    if letters::equal(w, b"[TIMES]") {
         return Section::Times;
     }
-    if fields::equal(w, b"[RULES]") {
+    if letters::equal(w, b"[RULES]") {
         return Section::Rules;
     }
     Section::Passed
@@ -70,7 +70,7 @@ pub enum Sort {
 fn plain_sort(w: &[u8]) -> Sort
     ensures { λ r. ⌜ sortIn r ≡ sortBy kind.Other (now (w .entry)) ⌝ }
 {
-    if fields::starts_with(w, b"RULE") {
+    if letters::starts_with(w, b"RULE") {
         return Sort::Start;
     }
     Sort::Other
@@ -84,7 +84,7 @@ pub fn sort_of(l: &[u8], at: usize) -> Sort
     let Field::Taken(s) = f else {
         return Sort::Empty;
     };
-    let w = fields::cut(l, s.at, l.len());
+    let w = letters::cut(l, s.at, l.len());
     let k = fields::line_kind(w, 0);
     match k {
         LineKind::Blank => Sort::Empty,
@@ -153,7 +153,7 @@ fn own_from(text: &[u8], from: usize) -> OwnLine
     let mut p = from;
     while p < text.len() {
         let e = fields::line_end(text, p);
-        let k = sort_of(fields::cut(text, 0, e), p);
+        let k = sort_of(letters::cut(text, 0, e), p);
         if own_by(k, section) {
             return OwnLine::Line(Span { at: p, end: e });
         }
@@ -167,5 +167,5 @@ fn own_from(text: &[u8], from: usize) -> OwnLine
 pub fn next_own(text: &[u8], at: usize, from: usize) -> OwnLine
     ensures { λ r. ⌜ NextOwn (now (text .entry)) at from r ⌝ }
 {
-    own_from(fields::cut(text, 0, at), from)
+    own_from(letters::cut(text, 0, at), from)
 }

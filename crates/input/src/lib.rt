@@ -72,5 +72,5 @@ pub fn read_argument(program: &[u8], i: usize, buffer: &mut [u8]) -> Input {
 pub fn argument_is(i: usize, word: &[u8]) -> bool {
     let mut space = io::buffer();
     let n = os::arg(i, &mut space);
-    fields::equal(&space[..n], word)
+    letters::equal(&space[..n], word)
 }

@@ -6,7 +6,7 @@ use mathlib.Core.Bool.{Bool}
 use mathlib.Core.List.{List, [], _∷_}
 use lib.ListN.{length}
 use Rattle.fields.specs.Fields.{Name}
-use Rattle.fields.specs.Words.{same}
+use Rattle.letters.specs.Words.{same}
 use Rattle.scope.specs.declared.Reason.the-variants.{Missing}
 use Rattle.scope.specs.Records.{Network}
 use Rattle.scope.specs.Values.{Read, bad, onTook, nameFrom}

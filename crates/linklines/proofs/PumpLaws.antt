@@ -11,7 +11,7 @@ use Rattle.decimals.specs.Numbers.{numberOf}
 use Rattle.decimals.specs.declared.Number as N
 use Rattle.decimals.specs.declared.Number.the-variants as number
 use Rattle.fields.specs.Fields.{Name}
-use Rattle.fields.specs.Words.{same}
+use Rattle.letters.specs.Words.{same}
 use Rattle.scope.specs.declared.Reason.{Reason}
 use Rattle.scope.specs.Spelling.{wordSpeed, wordHead, wordPower}
 use Rattle.scope.specs.Records.{zeroF}

@@ -110,10 +110,10 @@ fn take_status(l: &[u8], at: usize) -> PipeStatus
         return PipeStatus::Open;
     };
     let word = fields::letters_of(l, s);
-    if fields::spells(word, b"CV") {
+    if letters::spells(word, b"CV") {
         return PipeStatus::CheckValve;
     }
-    if fields::spells(word, b"CLOSED") {
+    if letters::spells(word, b"CLOSED") {
         return PipeStatus::Closed;
     }
     PipeStatus::Open
@@ -164,7 +164,7 @@ fn with_pair(l: &[u8], p: Pump, word: Span, value: Span) -> PumpRead
 {
     let name = fields::letters_of(l, word);
     let head = p.head;
-    if fields::equal(name, b"SPEED") {
+    if letters::equal(name, b"SPEED") {
         let n = decimals::read_number(fields::letters_of(l, value));
         let t = takers::swallow(n, 1.0, value.end);
         let TookNumber::Number(speed, _) = t else {
@@ -173,7 +173,7 @@ fn with_pair(l: &[u8], p: Pump, word: Span, value: Span) -> PumpRead
         let power = p.power;
         return PumpRead::Pairs(Pump { speed, head, power });
     }
-    if fields::equal(name, b"HEAD") {
+    if letters::equal(name, b"HEAD") {
         let speed = p.speed;
         let power = p.power;
         let curve = Field::Taken(value);
@@ -183,7 +183,7 @@ fn with_pair(l: &[u8], p: Pump, word: Span, value: Span) -> PumpRead
             power,
         });
     }
-    if fields::equal(name, b"POWER") {
+    if letters::equal(name, b"POWER") {
         let n = decimals::read_number(fields::letters_of(l, value));
         let t = takers::swallow(n, 0.0, value.end);
         let TookNumber::Number(power, _) = t else {
@@ -232,25 +232,25 @@ pub fn read_pairs(l: &[u8], at: usize) -> PumpRead
 fn read_type(word: &[u8]) -> TypeRead
     ensures { λ r. ⌜ TypeAs (typeOf (now (word .entry))) r ⌝ }
 {
-    if fields::spells(word, b"GPV") {
+    if letters::spells(word, b"GPV") {
         return TypeRead::Type(ValveType::Gpv);
     }
-    if fields::spells(word, b"TCV") {
+    if letters::spells(word, b"TCV") {
         return TypeRead::Type(ValveType::Tcv);
     }
-    if fields::spells(word, b"FCV") {
+    if letters::spells(word, b"FCV") {
         return TypeRead::Type(ValveType::Fcv);
     }
-    if fields::spells(word, b"PRV") {
+    if letters::spells(word, b"PRV") {
         return TypeRead::Type(ValveType::Prv);
     }
-    if fields::spells(word, b"PSV") {
+    if letters::spells(word, b"PSV") {
         return TypeRead::Type(ValveType::Psv);
     }
-    if fields::spells(word, b"PBV") {
+    if letters::spells(word, b"PBV") {
         return TypeRead::Type(ValveType::Pbv);
     }
-    if fields::spells(word, b"PCV") {
+    if letters::spells(word, b"PCV") {
         return TypeRead::Type(ValveType::Pcv);
     }
     TypeRead::NoType

@@ -125,7 +125,7 @@ fn take_curve(l: &[u8], at: usize) -> Field
     let Field::Taken(s) = f else {
         return Field::Nothing;
     };
-    if fields::equal(fields::letters_of(l, s), b"*") {
+    if letters::equal(fields::letters_of(l, s), b"*") {
         return Field::Nothing;
     }
     Field::Taken(s)
@@ -139,7 +139,7 @@ fn take_overflow(l: &[u8], at: usize) -> bool
     let Field::Taken(s) = f else {
         return false;
     };
-    fields::spells(fields::letters_of(l, s), b"YES")
+    letters::spells(fields::letters_of(l, s), b"YES")
 }
 
 // A tank's fields after its elevation.

@@ -103,7 +103,7 @@ pub fn name(text: &[u8], at: u64, long: u64) {
         return;
     }
     write(b" =");
-    letters(fields::cut(text, at as usize, long as usize));
+    letters(letters::cut(text, at as usize, long as usize));
 }
 
 // An index, which is kept plus one; `-` where there is none.

@@ -647,7 +647,7 @@ fn run(strict: bool) {
     let mut buffer = [0u8; ROOM_TEXT];
     let read = input::read_argument(b"records", 2, &mut buffer);
     if let Input::Read(n) = read {
-        show(strict, fields::cut(&buffer, 0, n));
+        show(strict, letters::cut(&buffer, 0, n));
     }
 }
 

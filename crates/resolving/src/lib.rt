@@ -21,7 +21,7 @@ fn pattern_index(text: &[u8], words: &[u64], patterns: usize, at: u64, long: u64
     if long == 0 {
         return 0;
     }
-    let name = fields::cut(text, at as usize, long as usize);
+    let name = letters::cut(text, at as usize, long as usize);
     tables::index_number(tables::find_pattern(text, words, patterns, name))
 }
 

@@ -363,7 +363,7 @@ fn judge_lines(text: &[u8], first: usize, at: usize, words: &[u64], links: usize
             return SketchRead::Good(q);
         };
         let read = read_line(
-            fields::cut(text, 0, s.end),
+            letters::cut(text, 0, s.end),
             s.at,
             q.acting,
             q.otherwise,
@@ -526,7 +526,7 @@ fn put_clauses(
             return;
         };
         let read = read_line(
-            fields::cut(text, 0, line.end),
+            letters::cut(text, 0, line.end),
             line.at,
             q.acting,
             q.otherwise,

@@ -10,7 +10,7 @@ use Rattle.decimals.specs.Numbers.{numberOf}
 use Rattle.decimals.specs.declared.Number as N
 use Rattle.decimals.specs.declared.Number.the-variants as number
 use Rattle.fields.specs.Fields.{Name, fieldsOf}
-use Rattle.fields.specs.Words.{same}
+use Rattle.letters.specs.Words.{same}
 use Rattle.fields.proofs.FieldLaws.{lettersIn, letters-moved}
 use Rattle.scope.specs.declared.Reason.{Reason}
 use Rattle.scope.specs.declared.Found.{Found}

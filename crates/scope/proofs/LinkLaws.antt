@@ -10,7 +10,7 @@ use Rattle.decimals.specs.Numbers.{numberOf}
 use Rattle.decimals.specs.declared.Number as N
 use Rattle.decimals.specs.declared.Number.the-variants as number
 use Rattle.fields.specs.Fields.{Name}
-use Rattle.fields.specs.Words.{same}
+use Rattle.letters.specs.Words.{same}
 use Rattle.scope.specs.declared.ValveType.{ValveType}
 use Rattle.scope.specs.declared.ValveType.the-variants.{Gpv, Tcv, Fcv, Prv, Psv, Pbv, Pcv}
 use Rattle.scope.specs.Spelling.{wordSpeed, wordHead, wordPower}

@@ -3,7 +3,7 @@ use Prim.Native.Nat.{ℕ}
 use mathlib.Core.Path.{_≡_, refl}
 use mathlib.Core.List.{List, [], _∷_, map}
 use Rattle.fields.specs.Fields.{Name}
-use Rattle.fields.specs.Words.{spelled}
+use Rattle.letters.specs.Words.{spelled}
 use Rattle.scope.specs.declared.TimeOption.{TimeOption}
 use Rattle.scope.specs.declared.TimeOption.the-variants.{Duration, HydraulicTimestep, PatternTimestep, ReportTimestep, PatternStart, StartClocktime, Dropped}
 use Rattle.scope.specs.Spelling.{wordStatistic}

@@ -5,7 +5,7 @@ use mathlib.Core.Bool.{Bool, cond}
 use mathlib.Core.List.{List, map}
 use Rattle.fields.specs.Fields.{Name, fieldsOf}
 use Rattle.fields.specs.Lines.{trimmed, lineKind, cutOf}
-use Rattle.fields.specs.Words.{begins}
+use Rattle.letters.specs.Words.{begins}
 use Rattle.fields.specs.declared.LineKind.{LineKind}
 use Rattle.fields.specs.declared.LineKind.the-variants.{Blank, Header, Other}
 use Rattle.lines.specs.Reader as L

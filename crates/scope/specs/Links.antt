@@ -11,7 +11,7 @@ use Rattle.decimals.specs.Numbers.{numberOf}
 use Rattle.decimals.specs.declared.Number as N
 use Rattle.decimals.specs.declared.Number.the-variants as number
 use Rattle.fields.specs.Fields.{Name}
-use Rattle.fields.specs.Words.{same, spelled}
+use Rattle.letters.specs.Words.{same, spelled}
 use Rattle.scope.specs.declared.Reason.the-variants.{Missing, Used, NotFound, Unknown, Beyond, Full}
 use Rattle.scope.specs.declared.PipeStatus.{PipeStatus}
 use Rattle.scope.specs.declared.PipeStatus.the-variants.{Open, Closed, CheckValve}

@@ -7,7 +7,7 @@ use lib.ListN.{length, set, getD}
 use lib.Dec.{ltb}
 use lib.Ieee.{Float}
 use Rattle.fields.specs.Fields.{Name, rest}
-use Rattle.fields.specs.Words.{same, spelled}
+use Rattle.letters.specs.Words.{same, spelled}
 use Rattle.scope.specs.declared.Reason.the-variants.{Used, NotFound, WrongKind, Full}
 use Rattle.scope.specs.Spelling.{zeroText, signStar, wordYes}
 use Rattle.scope.specs.Sections.{roomNodes, roomDemands}

@@ -17,7 +17,7 @@ use Rattle.clock.specs.Times.{timeOf, colonForm, hourOf, inUnit, colonAt, witho
 use Rattle.clock.specs.Times as clock
 use Rattle.fields.specs.Fields.{fieldsOf}
 use Rattle.fields.specs.Lines.{trimmed, lineKind, cutOf, startTrimmed, endTrimmed}
-use Rattle.fields.specs.Words.{same}
+use Rattle.letters.specs.Words.{same}
 use Rattle.lines.specs.Reader.{Mark, surveyMarks, surveyRecs, strict, code, count}
 use Rattle.lines.specs.Text.{linesOf, pieceNo}
 use Rattle.lines.specs.Tables.{codeOf, reasonIn}

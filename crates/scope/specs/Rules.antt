@@ -9,7 +9,7 @@ use lib.IntN.{pos}
 use lib.Ieee.{Float, binary64, ofInt}
 use Rattle.decimals.specs.Numbers.{numberOf}
 use Rattle.fields.specs.Fields.{Name}
-use Rattle.fields.specs.Words.{same}
+use Rattle.letters.specs.Words.{same}
 use Rattle.scope.specs.declared.Reason.the-variants.{Missing, Used, NotFound, WrongKind, Unknown, NoCondition, NoAction, NoId, Beyond, Full}
 use Rattle.scope.specs.declared.SystemAttribute.the-variants as system
 use Rattle.scope.specs.declared.NodeAttribute.the-variants as node

@@ -7,7 +7,7 @@ use lib.ListN.{set}
 use Rattle.decimals.specs.Numbers.{numberOf}
 use Rattle.clock.specs.Times.{hasColon}
 use Rattle.fields.specs.Fields.{Name}
-use Rattle.fields.specs.Words.{spelled}
+use Rattle.letters.specs.Words.{spelled}
 use Rattle.scope.specs.declared.Reason.the-variants.{Missing}
 use Rattle.scope.specs.declared.TimeOption.{TimeOption}
 use Rattle.scope.specs.declared.TimeOption.the-variants.{Duration, HydraulicTimestep, PatternTimestep, ReportTimestep, PatternStart, StartClocktime, Dropped}

@@ -14,7 +14,7 @@ use Rattle.clock.specs.Times.{timeOf}
 use Rattle.clock.specs.declared.Time as T
 use Rattle.clock.specs.declared.Time.the-variants as time
 use Rattle.fields.specs.Fields.{Name, lettersOr, rest}
-use Rattle.fields.specs.Words.{same}
+use Rattle.letters.specs.Words.{same}
 use Rattle.scope.specs.declared.Reason.{Reason}
 use Rattle.scope.specs.declared.Reason.the-variants.{Missing, Malformed, Unknown, Beyond}
 use Rattle.scope.specs.declared.Found.{Found}

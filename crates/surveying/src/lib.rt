@@ -92,7 +92,7 @@ fn count(xs: &[u8], k: u8) -> usize
 fn counts_of(classes: &[u8], lines: usize) -> Survey
     ensures { λ r. ⌜ r ≡ counted (take lines (now (classes .entry))) lines ⌝ }
 {
-    let xs = fields::cut(classes, 0, lines);
+    let xs = letters::cut(classes, 0, lines);
     Survey {
         number: 0,
         lines,

@@ -9,8 +9,8 @@ use mathlib.Core.List.{List, [], _∷_}
 use lib.ListN.{length, take, drop, getD, length-take, drop-of-length-le}
 use lib.Seq.{drop-cons}
 use Rattle.fields.specs.Fields.{Name, part}
-use Rattle.fields.specs.Words.{same}
-use Rattle.fields.proofs.WordLaws.{same-equal}
+use Rattle.letters.specs.Words.{same}
+use Rattle.letters.proofs.WordLaws.{same-equal}
 use Rattle.scope.specs.Records.{lookupFrom, lookup, noName}
 use Rattle.scope.specs.Tables.{packed, keyOf}
 use Rattle.scope.specs.declared.Found.{Found}

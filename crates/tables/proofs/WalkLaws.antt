@@ -8,7 +8,7 @@ use mathlib.Core.Bool.{Bool, true, false}
 use mathlib.Core.List.{List}
 use lib.ListN.{length, drop, getD}
 use Rattle.fields.specs.Fields.{Name}
-use Rattle.fields.specs.Words.{same}
+use Rattle.letters.specs.Words.{same}
 use Rattle.scope.specs.Records.{lookup, lookupFrom, noName}
 use Rattle.scope.specs.Tables.{keyOf}
 use Rattle.scope.specs.declared.Found.the-variants.{At, Nowhere}

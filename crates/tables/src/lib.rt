@@ -4,7 +4,7 @@ ghost use mathlib.Core.List.{List};
 ghost use Prim.Native.Nat.{ℕ, _+_, _≤_, _<_};
 ghost use lib.ListN.{length, getD, replicate};
 ghost use Rattle.fields.specs.Fields.{Name, nameIn};
-ghost use Rattle.fields.specs.Words.{same};
+ghost use Rattle.letters.specs.Words.{same};
 ghost use Rattle.scope.specs.Records.{Network, zeroF, lookup, nodeIds, linkIds, ruleIds, noNode};
 ghost use Rattle.scope.specs.Rules.{noLink, isPipe, isPump, isValve};
 ghost use Rattle.scope.specs.Series.{placeIn};
@@ -143,7 +143,7 @@ pub fn clear_numbers(numbers: &mut [f64])
 pub fn name_key(name: &[u8]) -> u64
     ensures { λ r. ⌜ r ≡ keyOf (now (name .entry)) ⌝ }
 {
-    let l = fields::cut(name, 0, 8);
+    let l = letters::cut(name, 0, 8);
     let mut k: u64 = 0;
     let mut i = 0;
     while i < l.len() {
@@ -164,7 +164,7 @@ fn row_is(text: &[u8], words: &[u64], row: usize, key: u64, name: &[u8]) -> bool
     let a = words[row] as usize;
     let n = words[row + 1] as usize;
     let e = a + n;
-    fields::equal(&text[a..e], name)
+    letters::equal(&text[a..e], name)
 }
 
 // The first row from number `from` on that may have the word: those before it have another at that place. Four are looked at in a turn, and where fewer are

@@ -86,10 +86,10 @@ pub fn take_flag(l: &[u8], at: usize) -> TookFlag
         return TookFlag::Flag(false, at);
     };
     let word = fields::letters_of(l, s);
-    if fields::equal(word, b"true") {
+    if letters::equal(word, b"true") {
         return TookFlag::Flag(true, s.end);
     }
-    if fields::equal(word, b"false") {
+    if letters::equal(word, b"false") {
         return TookFlag::Flag(false, s.end);
     }
     TookFlag::NoFlag(Reason::Malformed)

@@ -92,7 +92,7 @@ fn run(file: usize, in_words: bool) {
     let mut buffer = [0u8; ROOM_TEXT];
     let read = input::read_argument(b"tally", file, &mut buffer);
     if let Input::Read(n) = read {
-        show(fields::cut(&buffer, 0, n), in_words);
+        show(letters::cut(&buffer, 0, n), in_words);
     }
 }
 

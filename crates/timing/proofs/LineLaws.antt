@@ -10,7 +10,7 @@ use Rattle.decimals.specs.Numbers.{numberOf}
 use Rattle.clock.specs.declared.Time.{Time}
 use Rattle.clock.specs.Times.{hasColon, timeOf}
 use Rattle.fields.specs.Fields.{Name, lettersOr}
-use Rattle.fields.specs.Words.{spelled}
+use Rattle.letters.specs.Words.{spelled}
 use Rattle.scope.specs.declared.TimeOption.{TimeOption}
 use Rattle.scope.specs.Spelling.{wordStatistic}
 use Rattle.scope.specs.Values.{good}

@@ -4,7 +4,7 @@ ghost use mathlib.Core.Bool.{_&&_};
 ghost use Prim.Native.Nat.{_≤_};
 ghost use lib.ListN.{length, take};
 ghost use Rattle.fields.specs.Fields.{fieldsAt, nameIn};
-ghost use Rattle.fields.specs.Words.{spelled};
+ghost use Rattle.letters.specs.Words.{spelled};
 ghost use Rattle.clock.specs.Times.{hasColon};
 ghost use Rattle.scope.specs.Records.{Network};
 ghost use Rattle.scope.specs.Tables.{recordWords};
@@ -39,7 +39,7 @@ pub enum TimesRead {
 fn option_of(a: &[u8]) -> TimeOption
     ensures { λ r. ⌜ r ≡ optionOf (now (a .entry)) ⌝ }
 {
-    if fields::spells(a, b"DURATION") {
+    if letters::spells(a, b"DURATION") {
         return TimeOption::Duration;
     }
     TimeOption::Dropped
@@ -49,8 +49,8 @@ fn option_of(a: &[u8]) -> TimeOption
 fn spell_two(a: &[u8], b: &[u8], first: &[u8], second: &[u8]) -> bool
     ensures { λ r. ⌜ r ≡ (spelled (now (a .entry)) (now (first .entry)) && spelled (now (b .entry)) (now (second .entry))) ⌝ }
 {
-    if fields::spells(a, first) {
-        return fields::spells(b, second);
+    if letters::spells(a, first) {
+        return letters::spells(b, second);
     }
     false
 }
@@ -150,7 +150,7 @@ fn read_times(l: &[u8], at: usize) -> TimesRead
     let Field::Taken(word) = f else {
         return TimesRead::NoTime(Reason::Missing);
     };
-    if fields::spells(fields::letters_of(l, word), b"STATISTIC") {
+    if letters::spells(fields::letters_of(l, word), b"STATISTIC") {
         return TimesRead::Timed(TimeLine {
             option: TimeOption::Dropped,
             seconds: 0,

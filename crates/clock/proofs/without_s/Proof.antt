@@ -4,7 +4,7 @@ use mathlib.Core.List.{List}
 use Prim.Native.Nat.{ℕ}
 use native.Mathlib.Omega.{arith}
 use denote.Ref.{now}
-use Rattle.fields.specs.Words.{spelled}
+use Rattle.letters.specs.Words.{spelled}
 use Rattle.clock.specs.Times.{wordS, withoutS}
 use Rattle.clock.proofs.Choice.{chosen, passed}
 use Rattle.clock.proofs.Parts.{start-length, last-of}

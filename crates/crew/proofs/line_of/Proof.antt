@@ -5,7 +5,7 @@ use Rattle.crew.proofs.line_of.Statement.{statement}
 use Rattle.crew.proofs.line_of.Tie as tie
 use Rattle.crew.proofs.line_of.Reads as reads
 use Rattle.crew.proofs.line_of.Lts as lts
-use Rattle.fields.proofs.cut.Reads as cut-reads
+use Rattle.letters.proofs.cut.Reads as cut-reads
 use Rattle.printing.proofs.one_if.Reads as one-if-reads
 
 abbrev Inv-loop : tie.InvT-loop

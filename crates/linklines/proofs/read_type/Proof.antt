@@ -5,7 +5,7 @@ use Rattle.linklines.proofs.read_type.Statement.{statement}
 use Rattle.linklines.proofs.read_type.Tie as tie
 use Rattle.linklines.proofs.read_type.Reads as reads
 use Rattle.linklines.proofs.read_type.Lts as lts
-use Rattle.fields.proofs.spells.Reads as spells-reads
+use Rattle.letters.proofs.spells.Reads as spells-reads
 
 slice-aggregate-spells : tie.Need-slice-aggregate-spells
 slice-aggregate-spells c = search needs

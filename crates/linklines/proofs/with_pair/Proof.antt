@@ -15,7 +15,7 @@ use Rattle.linklines.proofs.with_pair.Tie as tie
 use Rattle.linklines.proofs.with_pair.Reads as reads
 use Rattle.linklines.proofs.with_pair.Lts as lts
 use Rattle.decimals.proofs.read_number.Reads as read-number-reads
-use Rattle.fields.proofs.equal.Reads as equal-reads
+use Rattle.letters.proofs.equal.Reads as equal-reads
 use Rattle.fields.proofs.letters_of.Reads as letters-of-reads
 use Rattle.takers.proofs.reason_of.Reads as reason-of-reads
 use Rattle.takers.proofs.swallow.Reads as swallow-reads

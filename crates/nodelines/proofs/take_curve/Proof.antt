@@ -7,7 +7,7 @@ use Rattle.nodelines.proofs.take_curve.Statement.{statement}
 use Rattle.nodelines.proofs.take_curve.Tie as tie
 use Rattle.nodelines.proofs.take_curve.Reads as reads
 use Rattle.nodelines.proofs.take_curve.Lts as lts
-use Rattle.fields.proofs.equal.Reads as equal-reads
+use Rattle.letters.proofs.equal.Reads as equal-reads
 use Rattle.fields.proofs.letters_of.Reads as letters-of-reads
 use Rattle.fields.proofs.next_field.Reads as next-field-reads
 

@@ -9,7 +9,7 @@ use Rattle.nodelines.proofs.take_overflow.Reads as reads
 use Rattle.nodelines.proofs.take_overflow.Lts as lts
 use Rattle.fields.proofs.letters_of.Reads as letters-of-reads
 use Rattle.fields.proofs.next_field.Reads as next-field-reads
-use Rattle.fields.proofs.spells.Reads as spells-reads
+use Rattle.letters.proofs.spells.Reads as spells-reads
 
 field : (c : tie.After-known-told) → (fieldsAt (now (c .before .before .before .before .before .args .l)) (c .before .before .before .before .before .args .at) ≡ nameIn (now (c .before .before .before .before .before .args .l)) (c .before .f .given .0 .0) ∷ fieldsAt (now (c .before .before .before .before .before .args .l)) (c .before .f .given .0 .0 .end)) × Fits (now (c .before .before .before .before .before .args .l)) (c .before .f .given .0 .0)
 field c = c .before .before .before .next-field .ensures .taken _ (c .before .f .given .1)

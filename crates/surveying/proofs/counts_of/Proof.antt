@@ -5,7 +5,7 @@ use Rattle.surveying.proofs.counts_of.Statement.{statement}
 use Rattle.surveying.proofs.counts_of.Tie as tie
 use Rattle.surveying.proofs.counts_of.Reads as reads
 use Rattle.surveying.proofs.counts_of.Lts as lts
-use Rattle.fields.proofs.cut.Reads as cut-reads
+use Rattle.letters.proofs.cut.Reads as cut-reads
 use Rattle.surveying.proofs.count.Reads as count-reads
 use Rattle.lines.specs.Tables.{countIn}
 

@@ -8,7 +8,7 @@ use Rattle.tables.proofs.name_key.Statement.{statement}
 use Rattle.tables.proofs.name_key.Tie as tie
 use Rattle.tables.proofs.name_key.Reads as reads
 use Rattle.tables.proofs.name_key.Lts as lts
-use Rattle.fields.proofs.cut.Reads as cut-reads
+use Rattle.letters.proofs.cut.Reads as cut-reads
 
 abbrev Inv-loop : tie.InvT-loop
 Inv-loop name l k₀ i₀ k i =

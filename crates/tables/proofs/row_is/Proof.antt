@@ -3,14 +3,14 @@ use native.Mathlib.Omega.{arith}
 use denote.Ref.{now}
 use mathlib.Core.Path.{_∙_, ap}
 use mathlib.Core.List.{List}
-use Rattle.fields.specs.Words.{same}
+use Rattle.letters.specs.Words.{same}
 use Rattle.tables.proofs.LookLaws.{other-key, row-letters, row-fits}
 use borrow.Author.Needs.{needs}
 use Rattle.tables.proofs.row_is.Statement.{statement}
 use Rattle.tables.proofs.row_is.Tie as tie
 use Rattle.tables.proofs.row_is.Reads as reads
 use Rattle.tables.proofs.row_is.Lts as lts
-use Rattle.fields.proofs.equal.Reads as equal-reads
+use Rattle.letters.proofs.equal.Reads as equal-reads
 
 add-if1 : tie.Need-add-if1
 add-if1 c = search needs

@@ -7,7 +7,7 @@ use Rattle.takers.proofs.take_flag.Statement.{statement}
 use Rattle.takers.proofs.take_flag.Tie as tie
 use Rattle.takers.proofs.take_flag.Reads as reads
 use Rattle.takers.proofs.take_flag.Lts as lts
-use Rattle.fields.proofs.equal.Reads as equal-reads
+use Rattle.letters.proofs.equal.Reads as equal-reads
 use Rattle.fields.proofs.letters_of.Reads as letters-of-reads
 use Rattle.fields.proofs.next_field.Reads as next-field-reads
 

@@ -1,4 +1,4 @@
--- `fields::spells` meets its contract. Assumes nothing.
+-- `letters::spells` meets its contract. Assumes nothing.
 use Prim.Native.Nat.{_-_}
 use native.Mathlib.Omega.{arith}
 use native.Mathlib.Numerals.{add-one}
@@ -7,10 +7,10 @@ use denote.Ref.{now}
 use mathlib.Core.Path.{_≡_, refl, sym, _∙_}
 use mathlib.Core.List.{map}
 use lib.ListN.{length, drop}
-use Rattle.fields.specs.Words.{same, raised}
-use Rattle.fields.proofs.WordLaws.{same-long, same-more, same-not, same-end}
-use Rattle.fields.proofs.spells.Statement.{statement}
-use Rattle.fields.proofs.spells.Tie as tie
+use Rattle.letters.specs.Words.{same, raised}
+use Rattle.letters.proofs.WordLaws.{same-long, same-more, same-not, same-end}
+use Rattle.letters.proofs.spells.Statement.{statement}
+use Rattle.letters.proofs.spells.Tie as tie
 
 abbrev Inv-loop : tie.InvT-loop
 Inv-loop a w i₀ i = (length a ≡ length w) × (same (map raised (drop i a)) (drop i w) ≡ same (map raised a) w)

@@ -1,10 +1,10 @@
--- `fields::starts_with` meets its contract. Assumes nothing.
+-- `letters::starts_with` meets its contract. Assumes nothing.
 use denote.Ref.{now}
 use mathlib.Core.Path.{_∙_, ap}
-use Rattle.fields.specs.Words.{same}
+use Rattle.letters.specs.Words.{same}
 use borrow.Author.Needs.{needs}
-use Rattle.fields.proofs.starts_with.Statement.{statement}
-use Rattle.fields.proofs.starts_with.Tie as tie
+use Rattle.letters.proofs.starts_with.Statement.{statement}
+use Rattle.letters.proofs.starts_with.Tie as tie
 
 cut-requires : tie.Need-cut-requires
 cut-requires c κs = search needs

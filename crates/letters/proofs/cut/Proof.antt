@@ -1,9 +1,9 @@
--- `fields::cut` meets its contract. Assumes nothing.
+-- `letters::cut` meets its contract. Assumes nothing.
 use denote.Ref.{now}
-use Rattle.fields.proofs.LineLaws.{cut-out, cut-rest, cut-part}
+use Rattle.letters.proofs.CutLaws.{cut-out, cut-rest, cut-part}
 use borrow.Author.Needs.{needs}
-use Rattle.fields.proofs.cut.Statement.{statement}
-use Rattle.fields.proofs.cut.Tie as tie
+use Rattle.letters.proofs.cut.Statement.{statement}
+use Rattle.letters.proofs.cut.Tie as tie
 
 sub-result : tie.Need-sub-result
 sub-result c = search needs

@@ -1,4 +1,4 @@
--- `fields::equal` meets its contract. Assumes nothing.
+-- `letters::equal` meets its contract. Assumes nothing.
 use Prim.Native.Nat.{ℕ, _-_}
 use native.Mathlib.Omega.{arith}
 use native.Mathlib.Numerals.{add-one}
@@ -6,10 +6,10 @@ use denote.Ref.{now}
 use mathlib.Core.Path.{_≡_, sym, ap, _∙_}
 use mathlib.Core.List.{List, map}
 use lib.ListN.{length, drop}
-use Rattle.fields.specs.Words.{same}
-use Rattle.fields.proofs.WordLaws.{same-long, same-more, same-not, same-end, map-id}
-use Rattle.fields.proofs.equal.Statement.{statement}
-use Rattle.fields.proofs.equal.Tie as tie
+use Rattle.letters.specs.Words.{same}
+use Rattle.letters.proofs.WordLaws.{same-long, same-more, same-not, same-end, map-id}
+use Rattle.letters.proofs.equal.Statement.{statement}
+use Rattle.letters.proofs.equal.Tie as tie
 
 abbrev Inv-loop : tie.InvT-loop
 Inv-loop a b i₀ i = (length a ≡ length b) × (same (map (λ x. x) (drop i a)) (drop i b) ≡ same a b)

@@ -1,9 +1,9 @@
--- `fields::raise` meets its contract. Assumes nothing.
+-- `letters::raise` meets its contract. Assumes nothing.
 use native.Mathlib.Omega.{arith}
 use borrow.Author.Tests.{le-leb, lt-leb}
 use borrow.Author.Needs.{needs}
-use Rattle.fields.proofs.raise.Statement.{statement}
-use Rattle.fields.proofs.raise.Tie as tie
+use Rattle.letters.proofs.raise.Statement.{statement}
+use Rattle.letters.proofs.raise.Tie as tie
 
 sub-result : tie.Need-sub-result
 sub-result c = search needs

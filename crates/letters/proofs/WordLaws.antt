@@ -9,10 +9,7 @@ use mathlib.Core.List.{List, [], _∷_, map}
 use lib.ListN.{length, drop, getD, drop-of-length-le}
 use lib.Seq.{drop-cons}
 use lib.Dec.{eqb}
-use Rattle.fields.specs.Lines.{isSpace, startTrimmed, keepByte, endTrimmed, trimmed}
-use Rattle.fields.specs.Words.{same, begins}
-use Rattle.fields.specs.Scan.{spanLen}
-use Rattle.fields.specs.declared.Kind.the-variants.{Word}
+use Rattle.letters.specs.Words.{same}
 
 and-false : (t : Bool) → (t && false) ≡ false
 and-false true = refl
@@ -70,26 +67,3 @@ same-iff a b = (same-equal a b, λ e. ap (same a) (sym e) ∙ same-refl a)
 
 pub differ : (a b : List ℕ) → same a b ≡ false → a ≡ b → ⊥
 differ a b h e = false≢true (sym h ∙ same-iff a b .1 e)
-
--- ---- a line that is trimmed begins with a word of no whitespace where it did before
-module _ (x y : ℕ) (l v : List ℕ) (h : isSpace y ≡ false) where
-  begins-byte : (t : Bool) (k : List ℕ) → isSpace x ≡ t → begins k v ≡ begins l v → begins (keepByte x k) (y ∷ v) ≡ begins (x ∷ l) (y ∷ v)
-  unfolding same
-  begins-byte true [] e q = rw (e, ne-eqb x y (λ k. false≢true (sym h ∙ ap isSpace (sym k) ∙ e)))
-  begins-byte false [] e q = rw (e, q)
-  begins-byte t (z ∷ k) e q = ap (λ (r : Bool). eqb x y && r) q
-
-begins-end : (l v : List ℕ) → spanLen Word v ≡ length v → begins (endTrimmed l) v ≡ begins l v
-unfolding endTrimmed spanLen
-begins-end l [] h = refl
-begins-end [] (y ∷ v) h = refl
-begins-end (x ∷ l) (y ∷ v) h = go (isSpace y) refl h (begins-end l v)
-  where
-    go : (t : Bool) → isSpace y ≡ t → cond (not t) (suc (spanLen Word v)) 0 ≡ suc (length v)
-        → (spanLen Word v ≡ length v → begins (endTrimmed l) v ≡ begins l v) → begins (keepByte x (endTrimmed l)) (y ∷ v) ≡ begins (x ∷ l) (y ∷ v)
-    go true e k f = absurd (omega arith)
-    go false e k f = begins-byte x y l v e (isSpace x) (endTrimmed l) refl (f (omega arith))
-
-pub begins-trimmed : (l v : List ℕ) → spanLen Word v ≡ length v → begins (startTrimmed l) v ≡ begins (trimmed l) v
-unfolding trimmed
-begins-trimmed l v h = sym (begins-end (startTrimmed l) v h)
