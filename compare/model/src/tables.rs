@@ -2,7 +2,11 @@
 
 use crate::network::*;
 
-pub const WORDS: usize = 14_421;
+pub const WORDS: usize = 15_907;
+/// How many slots the nodes have, and the links.
+const NAME_SLOTS: usize = 615;
+/// How many slots the demands have.
+const DEMAND_SLOTS: usize = 256;
 pub const NUMBERS: usize = 8_192;
 
 /// The words that a reading of the text leaves.
@@ -32,6 +36,9 @@ pub fn words(text: &[u8], n: &Network) -> Vec<u64> {
         region(6 * 2, n.times.iter().map(|time| count(*time).to_vec())),
         region(RULES * 7, n.rules.iter().map(|rule| [id(rule.id), rule_words(rule)].concat())),
         region(CLAUSES * 7, n.clauses.iter().map(|clause| clause_words(clause, name))),
+        slots(NAME_SLOTS, n.nodes.iter().map(|node| key(node.id))),
+        slots(NAME_SLOTS, n.links.iter().map(|link| key(link.id))),
+        slots(DEMAND_SLOTS, n.demands.iter().map(|demand| demand.junction as u64)),
         counts.map(|count| count as u64).to_vec(),
     ];
     regions.concat()
@@ -56,6 +63,18 @@ fn region<T: Default + Clone>(places: usize, records: impl Iterator<Item = Vec<T
     assert!(region.len() <= places, "the records fit their room");
     region.resize(places, T::default());
     region
+}
+
+/// For each slot the place plus one of the first record whose number is in it, or 0.
+fn slots(count: usize, numbers: impl Iterator<Item = u64>) -> Vec<u64> {
+    let mut slots = vec![0; count];
+    for (i, number) in numbers.enumerate() {
+        let slot = &mut slots[(number % count as u64) as usize];
+        if *slot == 0 {
+            *slot = index(Some(i));
+        }
+    }
+    slots
 }
 
 /// The first eight letters as one number, 256 to the place.

@@ -17,7 +17,8 @@ use Rattle.scope.specs.Values.{Read, good, bad}
 use Rattle.scope.specs.Links.{Ends, endsOf, addLink, LinkFields, storeLink}
 use Rattle.scope.specs.Tables.{idWords, nameWords, typeNo, linkKindWords, linkWords, linkNumbers}
 use Rattle.tables.specs.Table.{splice}
-use Rattle.tables.specs.Layout.{linksAt, linkSize, linkNumbersAt, linkNumbersSize}
+use Rattle.tables.specs.Layout.{linkNumbersAt, linkNumbersSize}
+use Rattle.tables.specs.Adding.{linkAdded}
 use Rattle.tables.specs.Holding.{Sits, Holds, After}
 use Rattle.tables.specs.declared.Kept.the-variants.{Stored, Refused}
 use Rattle.tables.proofs.HoldLaws.{add-link, count-links}
@@ -71,7 +72,7 @@ module _ {text : List ℕ} {m : Network} {s : Counts} {w : List ℕ} {f : List F
     links-full n = rw (free, le-ltb (length (m .links)) 256 (omega (arith, n, count-links h))) (refl, refl, refl)
 
     pub link-stored : {w1 : List ℕ} {f1 : List Float} → Sits text id → s .links < 256
-        → w1 ≡ splice w (linksAt + s .links * linkSize) (linkWords (record { id = id; start = e .start; end = e .end; kind = k }))
+        → w1 ≡ linkAdded w (s .links) (record { id = id; start = e .start; end = e .end; kind = k })
         → f1 ≡ splice f (linkNumbersAt + s .links * linkNumbersSize) (linkNumbers (record { id = id; start = e .start; end = e .end; kind = k }))
         → After text (addLink id e k m)
         (Stored (record { nodes = s .nodes; links = s .links + 1; curves = s .curves; points = s .points; patterns = s .patterns; multipliers = s .multipliers; demands = s .demands; rules = s .rules; clauses = s .clauses }))

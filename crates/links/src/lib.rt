@@ -6,9 +6,10 @@ ghost use lib.ListN.{length, take};
 ghost use Rattle.fields.specs.Fields.{fieldsAt, nameIn, Fits};
 ghost use Rattle.scope.specs.Records.{Network};
 ghost use Rattle.scope.specs.Links.{endsOf, addLink, storeLink, pipeStep, pumpStep, valveStep};
-ghost use Rattle.scope.specs.Tables.{recordWords, roomNumbers, linkKindWords, linkNumbersOf, linkWords, linkNumbers};
+ghost use Rattle.scope.specs.Tables.{recordWords, roomNumbers, linkKindWords, linkNumbersOf, linkNumbers};
 ghost use Rattle.tables.specs.Table.{splice};
-ghost use Rattle.tables.specs.Layout.{linksAt, linkSize, linkNumbersAt, linkNumbersSize};
+ghost use Rattle.tables.specs.Layout.{linkNumbersAt, linkNumbersSize};
+ghost use Rattle.tables.specs.Adding.{linkAdded};
 ghost use Rattle.tables.specs.Holding.{Words, Holds, Sound, After};
 ghost use Rattle.linklines.specs.Lines.{kindIn, lineIn};
 ghost use Rattle.links.specs.Storing.{linkIn, endsAt, EndsAs};
@@ -91,7 +92,7 @@ fn put_link(
     kind: LinkKind,
 )
     requires { ⌜ (n < 256) × (length (now words) ≡ recordWords) × (length (now numbers) ≡ roomNumbers) ⌝ }
-    ensures { λ _. ⌜ (now (words .exit) ≡ splice (now (words .entry)) (linksAt + n * linkSize) (linkWords (linkIn (now (text .entry)) id from to kind)))
+    ensures { λ _. ⌜ (now (words .exit) ≡ linkAdded (now (words .entry)) n (linkIn (now (text .entry)) id from to kind))
         × (now (numbers .exit) ≡ splice (now (numbers .entry)) (linkNumbersAt + n * linkNumbersSize) (linkNumbers (linkIn (now (text .entry)) id from to kind))) ⌝ }
 {
     let i = tables::id_words(text, id);
@@ -112,6 +113,8 @@ fn put_link(
             k[3],
         ],
     );
+    let slot = tables::slot_of(i[2]);
+    tables::mark(words, tables::LINK_SLOTS + slot, n);
     tables::paste_numbers(
         numbers,
         tables::LINK_NUMBERS + n * tables::NUMBERS_OF_LINK,

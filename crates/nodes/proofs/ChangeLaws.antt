@@ -81,7 +81,7 @@ module _ {text : List ℕ} {m : Network} {s : Counts} {w : List ℕ} {f : List F
         → After text (onJunction k (λ j. good (changeNode i (emitting (getD (m .nodes) i noNode) j x) m)) (bad WrongKind)) (Stored s) w f w f1
     emits x (junction j) e t ef =
         let n : Node = getD (m .nodes) i noNode in
-        let held = change-node-numbers h i noNode (emitting n j x) 1 (x ∷ []) node-below (fine .0, tt) (emit-words n j x e) (omega arith) (emit-numbers n j x e) ef in
+        let held = change-node-numbers h i noNode (emitting n j x) 1 (x ∷ []) node-below (fine .0, tt) refl (emit-words n j x e) (omega arith) (emit-numbers n j x e) ef in
         (ap Stored (h .counts ∙ sym (same-count-nodes m i (emitting n j x))), held)
     emits x (reservoir r) e t ef = absurd (let z : _≡_ {A = ℕ} 0 1 = cc in omega arith)
     emits x (tank r) e t ef = absurd (let z : _≡_ {A = ℕ} 0 1 = cc in omega arith)
@@ -97,7 +97,7 @@ module _ {text : List ℕ} {m : Network} {s : Counts} {w : List ℕ} {f : List F
     place-set p ew ef =
         let n : Node = getD (m .nodes) i noNode in
         let held =
-        change-node h i noNode (standing n p) 7 (1 ∷ []) 6 (p .x ∷ p .y ∷ []) node-below fine (omega arith) (kind-place-word (n .id) (n .kind) (placed (n .place)) 1) (omega arith)
+        change-node h i noNode (standing n p) 7 (1 ∷ []) 6 (p .x ∷ p .y ∷ []) node-below fine refl (omega arith) (kind-place-word (n .id) (n .kind) (placed (n .place)) 1) (omega arith)
         (kind-place-numbers (n .kind) (n .place) (p .x) (p .y)) ew ef
         in
         rw q (ap Stored (h .counts ∙ sym (same-count-nodes m i (standing n p))), held)

@@ -16,9 +16,10 @@ use Rattle.scope.specs.declared.Counts.{Counts}
 use Rattle.scope.specs.declared.Tank as coded
 use Rattle.scope.specs.Records.{Network, Node, NodeKind, reservoir, tank, zeroF, lookup, nodeIds}
 use Rattle.scope.specs.Nodes.{JunctionFields, junctionNode, junctionDemand, addJunction, addNode}
-use Rattle.scope.specs.Tables.{idWords, nameWords, flag, nodeWords, nodeNumbers, demandWords, demandNumbers}
+use Rattle.scope.specs.Tables.{idWords, nameWords, flag, marked, nodeSlot, nodeNumbers, demandNumbers}
 use Rattle.tables.specs.Table.{splice}
-use Rattle.tables.specs.Layout.{nodesAt, nodeSize, nodeNumbersAt, nodeNumbersSize, demandsAt, demandSize, demandNumbersAt}
+use Rattle.tables.specs.Layout.{nodesAt, nodeSize, nodeSlotsAt, nodeNumbersAt, nodeNumbersSize, demandNumbersAt}
+use Rattle.tables.specs.Adding.{nodeAdded, demandAdded}
 use Rattle.tables.specs.Holding.{Holds, After}
 use Rattle.tables.specs.declared.Kept.the-variants.{Stored, Refused}
 use Rattle.tables.proofs.HoldLaws.{sits-span, sits-field, add-node, add-demand, count-nodes, count-demands}
@@ -57,14 +58,14 @@ module _ {text : List ℕ} {m : Network} {s : Counts} {w : List ℕ} {f : List F
     node-full n = rw (free, le-ltb (length (m .nodes)) 256 (omega (arith, n, count-nodes h))) (refl, refl, refl)
 
     pub node-stored : {w1 : List ℕ} {f1 : List Float} (kind : ℕ) (name : Field) (last : ℕ) (amounts : List Float) → Fits text id → KindAs text k kind name last amounts → s .nodes < 256
-        → w1 ≡ splice w (nodesAt + s .nodes * nodeSize) (newWords (nameIn text id) kind (optIn text name) last) → f1 ≡ splice f (nodeNumbersAt + s .nodes * nodeNumbersSize) amounts
+        → w1 ≡ marked (splice w (nodesAt + s .nodes * nodeSize) (newWords (nameIn text id) kind (optIn text name) last)) (nodeSlotsAt + nodeSlot (newNode (nameIn text id) k)) (s .nodes + 1) → f1 ≡ splice f (nodeNumbersAt + s .nodes * nodeNumbersSize) amounts
         → After text (addNode (newNode (nameIn text id) k) m)
         (Stored (record { nodes = s .nodes + 1; links = s .links; curves = s .curves; points = s .points; patterns = s .patterns; multipliers = s .multipliers; demands = s .demands; rules = s .rules; clauses = s .clauses }))
         w f w1 f1
     unfolding addNode
     node-stored kind name last amounts fit a n ew ef =
         let x : Node = newNode (nameIn text id) k in
-        let ws = ew ∙ ap (λ (l : List ℕ). splice w (nodesAt + s .nodes * nodeSize) (idWords (nameIn text id) ++ l ++ (0 ∷ []))) (sym (a .words)) in
+        let ws = ew ∙ ap (λ (l : List ℕ). marked (splice w (nodesAt + s .nodes * nodeSize) (idWords (nameIn text id) ++ l ++ (0 ∷ []))) (nodeSlotsAt + nodeSlot x) (s .nodes + 1)) (sym (a .words)) in
         let ns = ef ∙ ap (λ (l : List Float). splice f (nodeNumbersAt + s .nodes * nodeNumbersSize) l) (sym (a .numbers (nameIn text id))) in
         let held = add-node h x (count-nodes h) n (sits-span text id fit, a .pattern) ws ns in
         rw (free, lt-ltb (length (m .nodes)) 256 (omega (arith, n, count-nodes h))) (rw (h .counts, length-append), held)
@@ -87,7 +88,7 @@ module _ {text : List ℕ} {m : Network} {s : Counts} {w : List ℕ} {f : List F
         (refl, refl, refl)
 
     pub junction-stored : {w1 : List ℕ} {f1 : List Float} → Fits text (j .id) → MayFit text (j .pattern) → s .nodes < 256 → s .demands < 512
-        → w1 ≡ splice (splice w (nodesAt + s .nodes * nodeSize) (nodeWords (junctionNode (junctionIn text j)))) (demandsAt + s .demands * demandSize) (demandWords (junctionDemand (s .nodes) (junctionIn text j)))
+        → w1 ≡ demandAdded (nodeAdded w (s .nodes) (junctionNode (junctionIn text j))) (s .demands) (junctionDemand (s .nodes) (junctionIn text j))
         → f1 ≡ splice (splice f (nodeNumbersAt + s .nodes * nodeNumbersSize) (nodeNumbers (junctionNode (junctionIn text j)))) (demandNumbersAt + s .demands) (demandNumbers (junctionDemand (s .nodes) (junctionIn text j)))
         → After text (addJunction (junctionIn text j) m)
         (Stored (record { nodes = s .nodes + 1; links = s .links; curves = s .curves; points = s .points; patterns = s .patterns; multipliers = s .multipliers; demands = s .demands + 1; rules = s .rules; clauses = s .clauses }))
@@ -95,10 +96,10 @@ module _ {text : List ℕ} {m : Network} {s : Counts} {w : List ℕ} {f : List F
     unfolding addJunction
     junction-stored fit may n d ew ef =
         let jf : JunctionFields = junctionIn text j in
-        let w0 : List ℕ = splice w (nodesAt + s .nodes * nodeSize) (nodeWords (junctionNode jf)) in
+        let w0 : List ℕ = nodeAdded w (s .nodes) (junctionNode jf) in
         let f0 : List Float = splice f (nodeNumbersAt + s .nodes * nodeNumbersSize) (nodeNumbers (junctionNode jf)) in
         let h1 = add-node h {w′ = w0} {f′ = f0} (junctionNode jf) (count-nodes h) n (sits-span text (j .id) fit, tt) refl refl in
-        let ws = ew ∙ ap (λ (i : ℕ). splice w0 (demandsAt + s .demands * demandSize) (demandWords (junctionDemand i jf))) (count-nodes h) in
+        let ws = ew ∙ ap (λ (i : ℕ). demandAdded w0 (s .demands) (junctionDemand i jf)) (count-nodes h) in
         let h2 = add-demand h1 (junctionDemand (length (m .nodes)) jf) (count-demands h) d (sits-field text (j .pattern) may) ws ef in
         rw (free, lt-ltb (length (m .nodes)) 256 (omega (arith, n, count-nodes h)), lt-ltb (length (m .demands)) 512 (omega (arith, d, count-demands h)))
         (rw (h .counts, length-append, length-append), h2)

@@ -1,14 +1,15 @@
 // Stores what a line of JUNCTIONS, RESERVOIRS, TANKS, EMITTERS or COORDINATES says, as nodelines reads it: the record is looked up and stored.
 ghost use mathlib.Core.Path.{_≡_};
-ghost use Prim.Native.Nat.{_+_, _*_, _≤_, _<_};
+ghost use Prim.Native.Nat.{_+_, _*_, _%_, _≤_, _<_};
 ghost use lib.ListN.{length, take};
 ghost use Rattle.fields.specs.Fields.{fieldsAt, nameIn, part, Fits, optIn, MayFit};
 ghost use Rattle.scope.specs.Records.{Network, Node, NodeKind, lookup, nodeIds};
 ghost use Rattle.scope.specs.Values.{Read, onRead};
 ghost use Rattle.scope.specs.Nodes.{junctionNode, tankNode, junctionDemand, addJunction, addNode, setEmitter, setPlace, junctionStep, reservoirStep, tankStep, emitterStep, coordinatesStep};
-ghost use Rattle.scope.specs.Tables.{nodeWords, nodeNumbers, demandWords, demandNumbers, recordWords, roomNumbers};
+ghost use Rattle.scope.specs.Tables.{keyOf, marked, slotOf, nodeNumbers, demandNumbers, recordWords, roomNumbers};
 ghost use Rattle.tables.specs.Table.{splice};
-ghost use Rattle.tables.specs.Layout.{nodesAt, nodeSize, nodeNumbersAt, nodeNumbersSize, demandsAt, demandSize, demandNumbersAt};
+ghost use Rattle.tables.specs.Layout.{nodesAt, nodeSize, nodeSlotsAt, nodeNumbersAt, nodeNumbersSize, demandsAt, demandSize, demandSlotsAt, demandNumbersAt};
+ghost use Rattle.tables.specs.Adding.{nodeAdded, demandAdded};
 ghost use Rattle.tables.specs.Holding.{Words, Holds, Sound, After};
 ghost use Rattle.nodelines.specs.Lines.{junctionIn, reservoirIn, tankIn, NodeAs, placeIn};
 ghost use Rattle.nodes.specs.Storing.{newNode, newWords, ownWords, KindAs};
@@ -45,7 +46,7 @@ fn node_named(text: &[u8], words: &[u64], nodes: usize, name: Span) -> Found
 // The words of node `i`, which has no place yet: a reservoir has a pattern's name, a tank a curve's; `last` is what its kind keeps in the last word.
 fn put_node(text: &[u8], i: usize, id: Span, kind: u64, name: Field, last: u64, words: &mut [u64])
     requires { ⌜ (i < 256) × (length (now words) ≡ recordWords) ⌝ }
-    ensures { λ _. ⌜ now (words .exit) ≡ splice (now (words .entry)) (nodesAt + i * nodeSize) (newWords (nameIn (now (text .entry)) id) kind (optIn (now (text .entry)) name) last) ⌝ }
+    ensures { λ _. ⌜ now (words .exit) ≡ marked (splice (now (words .entry)) (nodesAt + i * nodeSize) (newWords (nameIn (now (text .entry)) id) kind (optIn (now (text .entry)) name) last)) (nodeSlotsAt + slotOf (keyOf (nameIn (now (text .entry)) id .letters))) (i + 1) ⌝ }
 {
     let who = tables::id_words(text, id);
     let which = tables::name_words(text, name);
@@ -54,12 +55,14 @@ fn put_node(text: &[u8], i: usize, id: Span, kind: u64, name: Field, last: u64, 
         tables::NODES + i * tables::NODE_WORDS,
         &[who[0], who[1], who[2], kind, which[0], which[1], last, 0],
     );
+    let slot = tables::slot_of(who[2]);
+    tables::mark(words, tables::NODE_SLOTS + slot, i);
 }
 
 // The words of demand `d`: node `n` has it from its own line.
 fn put_demand(text: &[u8], d: usize, n: usize, pattern: Field, words: &mut [u64])
     requires { ⌜ (d < 512) × (length (now words) ≡ recordWords) ⌝ }
-    ensures { λ _. ⌜ now (words .exit) ≡ splice (now (words .entry)) (demandsAt + d * demandSize) (ownWords n (optIn (now (text .entry)) pattern)) ⌝ }
+    ensures { λ _. ⌜ now (words .exit) ≡ marked (splice (now (words .entry)) (demandsAt + d * demandSize) (ownWords n (optIn (now (text .entry)) pattern))) (demandSlotsAt + n % 256) (d + 1) ⌝ }
 {
     let which = tables::name_words(text, pattern);
     tables::paste_words(
@@ -67,6 +70,7 @@ fn put_demand(text: &[u8], d: usize, n: usize, pattern: Field, words: &mut [u64]
         tables::DEMANDS + d * tables::DEMAND_WORDS,
         &[n as u64, 1, which[0], which[1], 0],
     );
+    tables::mark(words, tables::DEMAND_SLOTS + n % 256, d);
 }
 
 // A junction as node `n`, with its own demand as demand `d`.
@@ -79,7 +83,7 @@ fn put_junction(
     numbers: &mut [f64],
 )
     requires { ⌜ (n < 256) × (d < 512) × (length (now words) ≡ recordWords) × (length (now numbers) ≡ roomNumbers) ⌝ }
-    ensures { λ _. ⌜ (now (words .exit) ≡ splice (splice (now (words .entry)) (nodesAt + n * nodeSize) (nodeWords (junctionNode (junctionIn (now (text .entry)) j)))) (demandsAt + d * demandSize) (demandWords (junctionDemand n (junctionIn (now (text .entry)) j))))
+    ensures { λ _. ⌜ (now (words .exit) ≡ demandAdded (nodeAdded (now (words .entry)) n (junctionNode (junctionIn (now (text .entry)) j))) d (junctionDemand n (junctionIn (now (text .entry)) j)))
         × (now (numbers .exit) ≡ splice (splice (now (numbers .entry)) (nodeNumbersAt + n * nodeNumbersSize) (nodeNumbers (junctionNode (junctionIn (now (text .entry)) j)))) (demandNumbersAt + d) (demandNumbers (junctionDemand n (junctionIn (now (text .entry)) j)))) ⌝ }
 {
     let id = j.id;

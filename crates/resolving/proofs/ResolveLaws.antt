@@ -77,7 +77,7 @@ module _ {text : List ℕ} {m : Network} {s : Counts} {w : List ℕ} {f : List F
         let d : Demand = getD (m .demands) k noDemand in
         let x : Demand = resolvedDemand (m .patterns) d in
         let q : demandWords x ≡ splice (demandWords d) 4 (v ∷ []) = rw e (demand-index d (m .patterns)) in
-        let h1 = change-demand-words h k noDemand x 4 (v ∷ []) below-demands demand-sits (omega arith) q refl (set-splice w (demandsAt + k * demandSize + 4) v room) in
+        let h1 = change-demand-words h k noDemand x 4 (v ∷ []) below-demands demand-sits refl (omega arith) q refl (set-splice w (demandsAt + k * demandSize + 4) v room) in
         subst (λ (c : Counts). Holds text (demandResolved k m) c (set w (demandsAt + k * demandSize + 4) v) f) (same-count-demands m k x ∙ sym (h .counts)) h1
 
 -- ---- a node
@@ -158,7 +158,7 @@ module _ {text : List ℕ} {m : Network} {s : Counts} {w : List ℕ} {f : List F
         let x : Node = resolvedNode (m .patterns) at in
         let a : NodeFine text x = (fine .0, rw (pattern-resolved (m .patterns) (at .kind)) (fine .1)) in
         let q : nodeWords x ≡ splice (nodeWords at) 6 (v ∷ []) = rw e (words-resolved (m .patterns) (at .id) (at .place) (at .kind) kind-two) in
-        let h1 = change-node-words h k noNode x 6 (v ∷ []) below-nodes a (omega arith) q (numbers-resolved (m .patterns) (at .id) (at .place) (at .kind)) (set-splice w (nodesAt + k * nodeSize + 6) v room) in
+        let h1 = change-node-words h k noNode x 6 (v ∷ []) below-nodes a refl (omega arith) q (numbers-resolved (m .patterns) (at .id) (at .place) (at .kind)) (set-splice w (nodesAt + k * nodeSize + 6) v room) in
         subst (λ (c : Counts). Holds text (nodeResolved k m) c (set w (nodesAt + k * nodeSize + 6) v) f) (same-count-nodes m k x ∙ sym (h .counts)) h1
 
 -- ---- records one after another: the first k are changed

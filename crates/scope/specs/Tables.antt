@@ -1,10 +1,10 @@
 -- Document 01, "Room", and docs/LAYOUT.md: what the two lent tables hold. Each is cut into regions; a region holds the records of one kind, each with the same number of
 -- places, and then zeros. The counts stand last. Assumes nothing.
-use Prim.Native.Nat.{ℕ, suc, _+_, _-_, _*_}
+use Prim.Native.Nat.{ℕ, zero, suc, _+_, _-_, _*_, _%_}
 use mathlib.Core.Bool.{Bool, true, false}
 use mathlib.Core.List.{List, [], _∷_, _++_}
 use mathlib.Core.Option.{Option, none, some}
-use lib.ListN.{length, take, drop, replicate}
+use lib.ListN.{length, take, drop, getD, set, replicate}
 use lib.Ieee.{Float}
 use Rattle.fields.specs.Fields.{Name}
 use Rattle.scope.specs.declared.PipeStatus.{PipeStatus}
@@ -201,6 +201,35 @@ abbrev pub clauseNumbers : Clause → List Float
 clauseNumbers (condition c) = valueNumber (c .value) ∷ []
 clauseNumbers (action a) = valueNumber (a .value) ∷ []
 
+-- ---- where a lookup starts: each record has a slot, and a slot holds the place plus one of the first record that has it, or 0
+abbrev pub markBy : ℕ → List ℕ → ℕ → ℕ → List ℕ
+markBy zero ss at v = set ss at v
+markBy (suc x) ss at v = ss
+
+-- a slot that is taken stays
+abbrev pub marked : List ℕ → ℕ → ℕ → List ℕ
+marked ss at v = markBy (getD ss at 0) ss at v
+
+unfoldable pub slotsFrom : {R : Type 0} → (R → ℕ) → ℕ → List R → List ℕ → List ℕ
+slotsFrom slot i [] ss = ss
+slotsFrom slot i (r ∷ rs) ss = slotsFrom slot (suc i) rs (marked ss (slot r) (suc i))
+
+abbrev pub slots : {R : Type 0} → (R → ℕ) → ℕ → List R → List ℕ
+slots slot n rs = slotsFrom slot 0 rs (replicate n 0)
+
+-- a node's and a link's slot is by the key of its name, a demand's by its junction
+abbrev pub slotOf : ℕ → ℕ
+slotOf key = key % 615
+
+abbrev pub nodeSlot : Node → ℕ
+nodeSlot n = slotOf (keyOf (n .id .letters))
+
+abbrev pub linkSlot : Link → ℕ
+linkSlot l = slotOf (keyOf (l .id .letters))
+
+abbrev pub demandSlot : Demand → ℕ
+demandSlot d = d .node % 256
+
 -- ---- the regions, and the two tables
 unfoldable pub wordBlocks : Network → List (List ℕ)
 wordBlocks m =
@@ -214,6 +243,9 @@ wordBlocks m =
     ∷ region countWords 0 12 (m .times)
     ∷ region ruleWords 0 448 (m .rules)
     ∷ region clauseWords 0 3584 (m .clauses)
+    ∷ slots nodeSlot 615 (m .nodes)
+    ∷ slots linkSlot 615 (m .links)
+    ∷ slots demandSlot 256 (m .demands)
     ∷ []
 
 unfoldable pub numberBlocks : Network → List (List Float)
@@ -228,10 +260,10 @@ numberBlocks m =
 
 -- how long the regions are together, and each table
 abbrev pub recordWords : ℕ
-recordWords = 14412
+recordWords = 15898
 
 abbrev pub roomWords : ℕ
-roomWords = 14421
+roomWords = 15907
 
 abbrev pub roomNumbers : ℕ
 roomNumbers = 8192

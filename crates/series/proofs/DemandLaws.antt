@@ -1,11 +1,11 @@
 -- A junction's own demand, looked for; and what storing a demand makes of the network. Assumes nothing.
-use Prim.Native.Nat.{ℕ, zero, suc, _+_, _-_, _*_, _≤_, _<_}
+use Prim.Native.Nat.{ℕ, zero, suc, _+_, _-_, _*_, _%_, _≤_, _<_}
 use native.Mathlib.Omega.{arith}
 use native.Mathlib.Nat.{add-zero}
 use native.Mathlib.Numerals.{add-one}
-use borrow.Author.Tests.{lt-ltb, le-ltb, eq-eqb, ne-eqb}
+use borrow.Author.Tests.{lt-ltb, le-ltb, eq-eqb, ne-eqb, eqb-true}
 use mathlib.Core.Path.{_≡_, refl, sym, ap, _∙_}
-use mathlib.Core.Bool.{Bool, true, false, cond}
+use mathlib.Core.Bool.{Bool, true, false, cond, _&&_}
 use mathlib.Core.List.{List, [], _∷_, _++_}
 use mathlib.Core.Option.{Option, none, some}
 use lib.ListN.{length, drop, getD, length-append, drop-of-length-le}
@@ -25,14 +25,16 @@ use Rattle.scope.specs.declared.Found.the-variants.{At, Nowhere}
 use Rattle.scope.specs.declared.Reason.the-variants.{NotFound, WrongKind, Full}
 use Rattle.takers.specs.Taking.{optIn, MayFit}
 use Rattle.tables.specs.Table.{splice}
-use Rattle.tables.specs.Layout.{demandsAt, demandSize, demandNumbersAt}
-use Rattle.tables.specs.Holding.{SitsOr, Words, Holds, After, InTable, OtherWords, noDemand, isJunction}
+use Rattle.tables.specs.Layout.{demandsAt, demandSize, demandSlotsAt, demandNumbersAt}
+use Rattle.tables.specs.Adding.{demandAdded}
+use Rattle.tables.specs.Holding.{SitsOr, Words, Holds, After, InTable, OtherWords, NotInSlot, noDemand, isJunction}
 use Rattle.tables.specs.declared.Kept.{Kept}
 use Rattle.tables.specs.declared.Kept.the-variants.{Stored, Refused}
 use Rattle.tables.proofs.HoldLaws.{sits-field, add-demand, change-demand, same-count-demands, count-demands}
 use Rattle.tables.proofs.LookLaws.{found-below}
 use Rattle.tables.proofs.ReadLaws.{demand-word, node-count}
 use Rattle.tables.proofs.WalkLaws.{Passed}
+use Rattle.tables.proofs.StartLaws.{demands-before}
 use Rattle.series.specs.Storing.{isOwn}
 
 -- ---- one demand
@@ -89,8 +91,13 @@ pub record Searched (w : List ℕ) (demands node k : ℕ) : Type 0 where
   pub left : (text : List ℕ) (m : Network) → Words text m w → demands ≡ length (m .demands) → ownFrom 0 node (m .demands) ≡ ownFrom k node (drop k (m .demands))
 
 module _ (w : List ℕ) (demands node : ℕ) where
-  pub start-search : Searched w demands node 0
-  start-search = record { upto = omega arith; left = λ text m hw e. refl }
+  pub start-search : (b : ℕ) → b ≤ demands → NotInSlot (getD w (demandSlotsAt + node % 256) 0) b → Searched w demands node b
+  start-search b h o = record {
+    upto = h;
+    left = λ text m hw e.
+        let z : 0 + b ≡ b = omega arith in
+        rw z at (own-past hw node 0 b (omega (arith, e)) (rw z (demands-before hw node b (omega (arith, e)) o)));
+  }
 
   module _ {k : ℕ} (g : Searched w demands node k) where
     pub past-search : (r : ℕ) → Passed w demandsAt demandSize node k demands r → Searched w demands node r
@@ -127,6 +134,27 @@ own-below j node (d ∷ ds) k e = go (isOwn d node) e (own-below (suc j) node ds
 pub own-in : (node : ℕ) (ds : List Demand) (k : ℕ) → ownFrom 0 node ds ≡ At k → k < length ds
 own-in node ds k e = omega (arith, own-below 0 node ds k e)
 
+-- and it is the node's
+own-found : (j node : ℕ) (ds : List Demand) (k : ℕ) → ownFrom j node ds ≡ At k → (j ≤ k) × (getD ds (k - j) noDemand .node ≡ node)
+unfolding ownFrom
+own-found j node [] k e = let z : _≡_ {A = ℕ} 0 1 = cc in absurd (omega arith)
+own-found j node (d ∷ ds) k e = go (eqb (d .node) node) (d .own) refl e (own-found (suc j) node ds k)
+  where
+    later : (suc j ≤ k) × (getD ds (k - suc j) noDemand .node ≡ node) → (j ≤ k) × (getD (d ∷ ds) (k - j) noDemand .node ≡ node)
+    later f = let q : k - j ≡ suc (k - suc j) = omega (arith, f .0) in (omega (arith, f .0), rw q (f .1))
+
+    go : (t o : Bool) → eqb (d .node) node ≡ t → cond (t && o) (At j) (ownFrom (suc j) node ds) ≡ At k → (ownFrom (suc j) node ds ≡ At k → (suc j ≤ k) × (getD ds (k - suc j) noDemand .node ≡ node))
+        → (j ≤ k) × (getD (d ∷ ds) (k - j) noDemand .node ≡ node)
+    go true true q e f =
+        let same : j ≡ k = cc in
+        let z : k - j ≡ 0 = omega arith in
+        (omega arith, rw z (eqb-true (d .node) node q))
+    go true false q e f = later (f e)
+    go false o q e f = later (f e)
+
+own-node : (node : ℕ) (ds : List Demand) (k : ℕ) → ownFrom 0 node ds ≡ At k → getD ds k noDemand .node ≡ node
+own-node node ds k e = let z : k - 0 ≡ k = omega arith in rw z at (own-found 0 node ds k e .1)
+
 -- ---- the words of a demand
 two-words : (o : Option Name) → nameWords o ≡ getD (nameWords o) 0 0 ∷ getD (nameWords o) 1 0 ∷ []
 two-words none = refl
@@ -155,7 +183,7 @@ module _ {text : List ℕ} {m : Network} {s : Counts} {w : List ℕ} {f : List F
     demands-full e k = rw (e, le-ltb (length (m .demands)) roomDemands (omega (arith, k, count-demands h))) (refl, refl, refl)
 
     pub appended : (w1 : List ℕ) (f1 : List Float) → ownFrom 0 node (m .demands) ≡ Nowhere → MayFit text p → s .demands < roomDemands
-        → w1 ≡ splice w (demandsAt + s .demands * demandSize) (demandWords (demandAt node x (optIn text p))) → f1 ≡ splice f (demandNumbersAt + s .demands) (x ∷ [])
+        → w1 ≡ demandAdded w (s .demands) (demandAt node x (optIn text p)) → f1 ≡ splice f (demandNumbersAt + s .demands) (x ∷ [])
         → Adds
         (Stored (record { nodes = s .nodes; links = s .links; curves = s .curves; points = s .points; patterns = s .patterns; multipliers = s .multipliers; demands = s .demands + 1; rules = s .rules; clauses = s .clauses }))
         w1 f1
@@ -170,7 +198,7 @@ module _ {text : List ℕ} {m : Network} {s : Counts} {w : List ℕ} {f : List F
     unfolding addDemand
     replaced k w1 f1 e fits ew ef =
         let d : Demand = demandAt node x (optIn text p) in
-        let h1 = change-demand h k noDemand d (own-in node (m .demands) k e) (sits text p fits) ew ef in
+        let h1 = change-demand h k noDemand d (own-in node (m .demands) k e) (sits text p fits) (ap (λ (i : ℕ). i % 256) (sym (own-node node (m .demands) k e))) ew ef in
         rw e (ap Stored (h .counts ∙ sym (same-count-demands m k d)), h1)
 
   module _ (id : Span) where

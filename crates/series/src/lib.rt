@@ -225,7 +225,7 @@ fn own_demand(words: &[u64], demands: usize, node: usize) -> Found
     requires { ⌜ (demands ≤ roomDemands) × (length (now words) ≡ recordWords) ⌝ }
     ensures { λ r. ⌜ ((text : List ℕ) (m : Network) → Words text m (now (words .entry)) → demands ≡ length (m .demands) → r ≡ ownFrom 0 node (m .demands)) ⌝ }
 {
-    let mut k = 0;
+    let mut k = tables::first_in_slot(words, tables::DEMAND_SLOTS + node % 256, demands);
     loop {
         k = tables::next_with_word(
             words,
@@ -290,6 +290,7 @@ fn add_demand(
         Found::Nowhere => {
             if n < 512 {
                 put_demand(text, d, node, n, words, numbers);
+                tables::mark(words, tables::DEMAND_SLOTS + node % 256, n);
                 let mut t = s;
                 t.demands = n + 1;
                 return Kept::Stored(t);

@@ -1,13 +1,14 @@
 -- Blocks one after another: what is put in one of them. Assumes nothing.
 use Prim.Native.Nat.{ℕ, zero, suc, _+_, _-_, _*_, _≤_, _<_}
 use native.Mathlib.Omega.{arith}
-use native.Mathlib.Nat.{add-assoc, zero-add, suc-mul, zero-mul}
+use native.Mathlib.Nat.{add-assoc, zero-add, suc-add, suc-mul, zero-mul}
 use mathlib.Core.Path.{_≡_, refl, sym, ap, _∙_}
 use mathlib.Core.List.{List, [], _∷_, _++_, map, append-assoc, append-nil}
 use lib.ListN.{length, take, drop, set, getD, replicate, length-append, length-set, List·getD-append}
-use lib.Seq.{drop-length, take-append-add, drop-append-add, take-append-le, drop-append-le, getD-append-add}
-use Rattle.scope.specs.Tables.{flat, region, blocks}
+use lib.Seq.{set-append-left, set-getD, map-set-same, drop-length, take-append-add, drop-append-add, take-append-le, drop-append-le, getD-append-add}
+use Rattle.scope.specs.Tables.{flat, region, blocks, markBy, marked, slots}
 use Rattle.tables.specs.Table.{splice}
+use Rattle.tables.proofs.SlotLaws.{slots-long, slots-more}
 use Rattle.tables.proofs.RegionLaws.{flat-length, row-in, region-length, region-put, region-puts, region-at, region-same}
 
 -- the places of the blocks before one
@@ -46,6 +47,24 @@ module _ {A : Type 0} where
       rw (← e1, add-assoc (length b) (sum (take k ns)) off)
       (splice-after b (blocks bs) (sum (take k ns) + off) rec
       ∙ ap (λ (l : List A). b ++ l) (put-in bs ns e2 k off rec (omega arith) h))
+
+  set-after : (a b : List A) (off : ℕ) (v : A) → set (a ++ b) (length a + off) v ≡ a ++ set b off v
+  set-after [] b off v = rw zero-add
+  set-after (x ∷ a) b off v = rw (suc-add (length a) off) (ap (λ (l : List A). x ∷ l) (set-after a b off v))
+
+  -- what is set at `off` of block k
+  set-in : (bs : List (List A)) (ns : List ℕ) → map length bs ≡ ns → (k off : ℕ) (v : A) → k < length bs → off < length (getD bs k [])
+      → set (blocks bs) (sum (take k ns) + off) v ≡ blocks (set bs k (set (getD bs k []) off v))
+  unfolding flat
+  set-in [] ns e k off v hk h = absurd (omega arith)
+  set-in (b ∷ bs) [] e k off v hk h = let z : _≡_ {A = ℕ} 0 1 = cc in absurd (omega arith)
+  set-in (b ∷ bs) (n ∷ ns) e zero off v hk h = rw zero-add (set-append-left b (blocks bs) off v h)
+  set-in (b ∷ bs) (n ∷ ns) e (suc k) off v hk h =
+      let e1 : length b ≡ n = cc in
+      let e2 : map length bs ≡ ns = cc in
+      rw (← e1, add-assoc (length b) (sum (take k ns)) off)
+      (set-after b (blocks bs) (sum (take k ns) + off) v
+      ∙ ap (λ (l : List A). b ++ l) (set-in bs ns e2 k off v (omega arith) h))
 
   -- what stands at `off` of block k
   pub get-in : (bs : List (List A)) (ns : List ℕ) → map length bs ≡ ns → (k off : ℕ) (d : A) → k < length bs → off < length (getD bs k [])
@@ -104,6 +123,10 @@ module _ {A R : Type 0} {enc : R → List A} {z : A} {bs : List (List A)} {b n b
       let made : splice (getD bs b []) off rec ≡ new = rw (g .is) q in
       e ∙ ap (λ (l : List A). splice l (base + off) rec) exact ∙ at ∙ ap (λ (l : List A). blocks (set bs b l)) made
 
+  -- other records in their place: no block is longer or shorter
+  pub sizes-kept : (qs : List R) → length qs * k ≤ n → map length (set bs b (region enc z n qs)) ≡ map length bs
+  sizes-kept qs h = map-set-same length bs b (region enc z n qs) [] (region-length enc z k n (g .same-size) qs h ∙ sym long)
+
   -- several records more
   pub add-records : {c : ℕ} (qs : List R) {w′ : List A} → c ≡ length rs → c * k + length qs * k ≤ n → w′ ≡ splice w (base + c * k) (flat enc qs) → w′ ≡ blocks (set bs b (region enc z n (rs ++ qs)))
   add-records {c} qs ec h e =
@@ -142,3 +165,36 @@ module _ {A R : Type 0} {enc : R → List A} {z : A} {bs : List (List A)} {b n b
       rw (at, exact)
       (get-in bs (g .sizes) (g .sized) b (i * k + j) d (g .block) (omega (arith, long, row-in k i (length rs) hi, g .fit))
       ∙ rw (g .is) (region-at enc z k n (g .same-size) rs i j d r0 hi hj))
+
+-- ---- slots
+module _ (bs : List (List ℕ)) (ns : List ℕ) (e : map length bs ≡ ns) (k off v : ℕ) (hk : k < length bs) (h : off < length (getD bs k [])) where
+  mark-by : (x : ℕ) → markBy x (blocks bs) (sum (take k ns) + off) v ≡ blocks (set bs k (markBy x (getD bs k []) off v))
+  mark-by zero = set-in bs ns e k off v hk h
+  mark-by (suc x) = ap blocks (sym (set-getD bs k []))
+
+  mark-in : marked (blocks bs) (sum (take k ns) + off) v ≡ blocks (set bs k (marked (getD bs k []) off v))
+  mark-in = rw (get-in bs ns e k off 0 hk h) (mark-by (getD (getD bs k []) off 0))
+
+-- block b of bs is the n slots of rs, from `base` on
+pub record Slotted {R : Type 0} (slot : R → ℕ) (bs : List (List ℕ)) (b n base : ℕ) (rs : List R) : Type 0 where
+  pub sizes : List ℕ
+  pub sized : map length bs ≡ sizes
+  pub start : sum (take b sizes) ≡ base
+  pub block : b < length bs
+  pub is : getD bs b [] ≡ slots slot n rs
+
+module _ {R : Type 0} {slot : R → ℕ} {bs : List (List ℕ)} {b n base : ℕ} {rs : List R} (g : Slotted slot bs b n base rs) {w : List ℕ} (exact : w ≡ blocks bs) where
+  as-many : length (getD bs b []) ≡ n
+  as-many = ap length (g .is) ∙ slots-long slot n rs
+
+  -- one record more
+  pub add-slot : {c : ℕ} (r : R) {w′ : List ℕ} → c ≡ length rs → slot r < n → w′ ≡ marked w (base + slot r) (c + 1) → w′ ≡ blocks (set bs b (slots slot n (rs ++ (r ∷ []))))
+  add-slot {c} r ec h e =
+      let at : marked (blocks bs) (base + slot r) (c + 1) ≡ blocks (set bs b (marked (getD bs b []) (slot r) (c + 1))) =
+      rw (← g .start) (mark-in bs (g .sizes) (g .sized) b (slot r) (c + 1) (g .block) (omega (arith, as-many))) in
+      let made : marked (getD bs b []) (slot r) (c + 1) ≡ slots slot n (rs ++ (r ∷ [])) = rw (g .is, ec) (slots-more slot n rs r) in
+      e ∙ ap (λ (l : List ℕ). marked l (base + slot r) (c + 1)) exact ∙ at ∙ ap (λ (l : List ℕ). blocks (set bs b l)) made
+
+  -- what a slot holds
+  pub slot-word : (h : ℕ) → h < n → getD w (base + h) 0 ≡ getD (slots slot n rs) h 0
+  slot-word h hh = rw (← g .start, exact) (get-in bs (g .sizes) (g .sized) b h 0 (g .block) (omega (arith, as-many)) ∙ ap (λ (l : List ℕ). getD l h 0) (g .is))

@@ -8,7 +8,7 @@ use mathlib.Core.Option.{Option, none, some}
 use lib.ListN.{length, drop, replicate, length-append, replicate-append-replicate}
 use lib.Ieee.{Float}
 use Rattle.scope.specs.Records.{Network, zeroF, noNetwork, countsOf}
-use Rattle.scope.specs.Tables.{flat, region, blocks, recordWords, roomNumbers, idWords, countWords, nodeWords, nodeNumbers, linkWords, linkNumbers, pointWords, pointNumbers, multiplierWords, multiplierNumbers, demandWords, demandNumbers, ruleWords, clauseWords, clauseNumbers, wordBlocks, numberBlocks}
+use Rattle.scope.specs.Tables.{flat, region, blocks, recordWords, roomNumbers, idWords, countWords, nodeWords, nodeNumbers, linkWords, linkNumbers, pointWords, pointNumbers, multiplierWords, multiplierNumbers, demandWords, demandNumbers, ruleWords, clauseWords, clauseNumbers, slotsFrom, slots, nodeSlot, linkSlot, demandSlot, wordBlocks, numberBlocks}
 use Rattle.tables.specs.Holding.{Known, Words, Numbers, Holds}
 use Rattle.tables.proofs.BlockLaws.{sum}
 use Rattle.tables.proofs.SizeLaws.{word-sizes, number-sizes}
@@ -44,19 +44,26 @@ times-none : region countWords 0 12 (replicate 6 none) ≡ replicate 12 0
 unfolding region flat
 times-none = refl
 
+none-slotted : {R : Type 0} (slot : R → ℕ) (n : ℕ) → slots slot n [] ≡ replicate n 0
+unfolding slotsFrom
+none-slotted slot n = refl
+
 empty-words : blocks (wordBlocks noNetwork) ≡ replicate recordWords 0
 unfolding wordBlocks
 empty-words =
-    one-more 0 (drop 1 (wordBlocks noNetwork)) 2048 12364 (none-in 0 nodeWords 2048)
-    (one-more 0 (drop 2 (wordBlocks noNetwork)) 2304 10060 (none-in 0 linkWords 2304)
-    (one-more 0 (drop 3 (wordBlocks noNetwork)) 192 9868 (none-in 0 idWords 192)
-    (one-more 0 (drop 4 (wordBlocks noNetwork)) 1024 8844 (none-in 0 pointWords 1024)
-    (one-more 0 (drop 5 (wordBlocks noNetwork)) 192 8652 (none-in 0 idWords 192)
-    (one-more 0 (drop 6 (wordBlocks noNetwork)) 2048 6604 (none-in 0 multiplierWords 2048)
-    (one-more 0 (drop 7 (wordBlocks noNetwork)) 2560 4044 (none-in 0 demandWords 2560)
-    (one-more 0 (drop 8 (wordBlocks noNetwork)) 12 4032 times-none
-    (one-more 0 (drop 9 (wordBlocks noNetwork)) 448 3584 (none-in 0 ruleWords 448)
-    (one-more 0 (drop 10 (wordBlocks noNetwork)) 3584 0 (none-in 0 clauseWords 3584) (no-more 0))))))))))
+    one-more 0 (drop 1 (wordBlocks noNetwork)) 2048 13850 (none-in 0 nodeWords 2048)
+    (one-more 0 (drop 2 (wordBlocks noNetwork)) 2304 11546 (none-in 0 linkWords 2304)
+    (one-more 0 (drop 3 (wordBlocks noNetwork)) 192 11354 (none-in 0 idWords 192)
+    (one-more 0 (drop 4 (wordBlocks noNetwork)) 1024 10330 (none-in 0 pointWords 1024)
+    (one-more 0 (drop 5 (wordBlocks noNetwork)) 192 10138 (none-in 0 idWords 192)
+    (one-more 0 (drop 6 (wordBlocks noNetwork)) 2048 8090 (none-in 0 multiplierWords 2048)
+    (one-more 0 (drop 7 (wordBlocks noNetwork)) 2560 5530 (none-in 0 demandWords 2560)
+    (one-more 0 (drop 8 (wordBlocks noNetwork)) 12 5518 times-none
+    (one-more 0 (drop 9 (wordBlocks noNetwork)) 448 5070 (none-in 0 ruleWords 448)
+    (one-more 0 (drop 10 (wordBlocks noNetwork)) 3584 1486 (none-in 0 clauseWords 3584)
+    (one-more 0 (drop 11 (wordBlocks noNetwork)) 615 871 (none-slotted nodeSlot 615)
+    (one-more 0 (drop 12 (wordBlocks noNetwork)) 615 256 (none-slotted linkSlot 615)
+    (one-more 0 (drop 13 (wordBlocks noNetwork)) 256 0 (none-slotted demandSlot 256) (no-more 0)))))))))))))
 
 empty-numbers : blocks (numberBlocks noNetwork) ≡ replicate roomNumbers zeroF
 unfolding numberBlocks

@@ -15,13 +15,15 @@ use Rattle.fields.proofs.FieldLaws.{length-part}
 use Rattle.scope.specs.Records.{Network, Node, Link, Point, Multiplier, Demand, Rule, Clause, zeroF, noNetwork, countsOf, withNodes, withLinks, withCurves, withPoints, withPatterns, withMultipliers, withDemands, withTimes, withRules, withClauses}
 use Rattle.scope.specs.Sections.{roomNodes, roomLinks, roomCurves, roomPoints, roomPatterns, roomMultipliers, roomDemands, roomRules, roomClauses}
 use Rattle.scope.specs.Series.{multiplierOf}
-use Rattle.scope.specs.Tables.{flat, region, blocks, recordWords, roomNumbers, idWords, countWords, nodeWords, nodeNumbers, linkWords, linkNumbers, pointWords, pointNumbers, multiplierWords, multiplierNumbers, demandWords, demandNumbers, ruleWords, clauseWords, clauseNumbers, wordBlocks, numberBlocks}
+use Rattle.scope.specs.Tables.{flat, region, blocks, recordWords, roomNumbers, idWords, countWords, nodeWords, nodeNumbers, linkWords, linkNumbers, pointWords, pointNumbers, multiplierWords, multiplierNumbers, demandWords, demandNumbers, ruleWords, clauseWords, clauseNumbers, marked, slots, nodeSlot, linkSlot, demandSlot, wordBlocks, numberBlocks}
 use Rattle.scope.specs.declared.Counts.{Counts}
 use Rattle.tables.specs.Table.{splice}
-use Rattle.tables.specs.Layout.{nodesAt, linksAt, curvesAt, pointsAt, patternsAt, multipliersAt, demandsAt, timesAt, rulesAt, clausesAt, nodeSize, linkSize, idSize, demandSize, timeSize, ruleSize, clauseSize, nodeNumbersAt, linkNumbersAt, pointNumbersAt, multiplierNumbersAt, demandNumbersAt, clauseNumbersAt, nodeNumbersSize, linkNumbersSize, pointNumbersSize}
+use Rattle.tables.specs.Layout.{nodesAt, linksAt, curvesAt, pointsAt, patternsAt, multipliersAt, demandsAt, timesAt, rulesAt, clausesAt, nodeSlotsAt, linkSlotsAt, demandSlotsAt, nodeSize, linkSize, idSize, demandSize, timeSize, ruleSize, clauseSize, nodeNumbersAt, linkNumbersAt, pointNumbersAt, multiplierNumbersAt, demandNumbersAt, clauseNumbersAt, nodeNumbersSize, linkNumbersSize, pointNumbersSize}
+use Rattle.tables.specs.Adding.{nodeAdded, linkAdded, demandAdded}
 use Rattle.tables.specs.Holding.{Sits, SitsOr, optIn, MayFit, Each, Part, NodeFine, LinkFine, PointFine, MultiplierFine, DemandFine, RuleFine, ClauseFine, Known, Words, Numbers, Holds}
-use Rattle.tables.proofs.BlockLaws.{add-records, add-record, change-part, change-record, keep-record}
-use Rattle.tables.proofs.SizeLaws.{node-words-lie, link-words-lie, curve-words-lie, point-words-lie, pattern-words-lie, multiplier-words-lie, demand-words-lie, time-words-lie, rule-words-lie, clause-words-lie, node-numbers-lie, link-numbers-lie, point-numbers-lie, multiplier-numbers-lie, demand-numbers-lie, clause-numbers-lie}
+use Rattle.tables.proofs.SlotLaws.{slots-same}
+use Rattle.tables.proofs.BlockLaws.{Slotted, add-records, add-record, change-part, change-record, keep-record, sizes-kept, add-slot}
+use Rattle.tables.proofs.SizeLaws.{wordSizes, word-sizes, node-words-lie, link-words-lie, curve-words-lie, point-words-lie, pattern-words-lie, multiplier-words-lie, demand-words-lie, time-words-lie, rule-words-lie, clause-words-lie, node-numbers-lie, link-numbers-lie, point-numbers-lie, multiplier-numbers-lie, demand-numbers-lie, clause-numbers-lie}
 
 -- ---- names
 -- a span that fits is a name that stands in the text
@@ -99,13 +101,25 @@ module _ {text : List ℕ} {m : Network} (k : Known text m) where
 
 -- ---- the words
 module _ {text : List ℕ} {m : Network} {w : List ℕ} (h : Words text m w) where
-  more-node-words : {w′ : List ℕ} {n : ℕ} (x : Node) → n ≡ length (m .nodes) → n < roomNodes → NodeFine text x → w′ ≡ splice w (nodesAt + n * nodeSize) (nodeWords x) → Words text (withNodes (m .nodes ++ (x ∷ [])) m) w′
+  more-node-words : {w′ : List ℕ} {n : ℕ} (x : Node) → n ≡ length (m .nodes) → n < roomNodes → NodeFine text x → w′ ≡ nodeAdded w n x → Words text (withNodes (m .nodes ++ (x ∷ [])) m) w′
   unfolding wordBlocks
-  more-node-words {n = n} x c r a e = record { exact = add-record (node-words-lie (h .known)) (h .exact) x c (omega arith) e; known = known-nodes (h .known) (m .nodes ++ (x ∷ [])) (more (h .known .nodes) x c r a) }
+  more-node-words {n = n} x c r a e =
+      let xs : List Node = m .nodes ++ (x ∷ []) in
+      let p = more (h .known .nodes) x c r a in
+      let g = node-words-lie (h .known) in
+      let at : Slotted nodeSlot (set (wordBlocks m) 0 (region nodeWords 0 2048 xs)) 10 615 nodeSlotsAt (m .nodes) =
+      record { sizes = wordSizes; sized = sizes-kept g (h .exact) xs (omega (arith, p .bound)) ∙ word-sizes (h .known); start = refl; block = omega arith; is = refl } in
+      record { exact = add-slot at (add-record g (h .exact) x c (omega arith) refl) x c (omega arith) e; known = known-nodes (h .known) xs p }
 
-  more-link-words : {w′ : List ℕ} {n : ℕ} (x : Link) → n ≡ length (m .links) → n < roomLinks → Sits text (x .id) → w′ ≡ splice w (linksAt + n * linkSize) (linkWords x) → Words text (withLinks (m .links ++ (x ∷ [])) m) w′
+  more-link-words : {w′ : List ℕ} {n : ℕ} (x : Link) → n ≡ length (m .links) → n < roomLinks → Sits text (x .id) → w′ ≡ linkAdded w n x → Words text (withLinks (m .links ++ (x ∷ [])) m) w′
   unfolding wordBlocks
-  more-link-words {n = n} x c r a e = record { exact = add-record (link-words-lie (h .known)) (h .exact) x c (omega arith) e; known = known-links (h .known) (m .links ++ (x ∷ [])) (more (h .known .links) x c r a) }
+  more-link-words {n = n} x c r a e =
+      let xs : List Link = m .links ++ (x ∷ []) in
+      let p = more (h .known .links) x c r a in
+      let g = link-words-lie (h .known) in
+      let at : Slotted linkSlot (set (wordBlocks m) 1 (region linkWords 0 2304 xs)) 11 615 linkSlotsAt (m .links) =
+      record { sizes = wordSizes; sized = sizes-kept g (h .exact) xs (omega (arith, p .bound)) ∙ word-sizes (h .known); start = refl; block = omega arith; is = refl } in
+      record { exact = add-slot at (add-record g (h .exact) x c (omega arith) refl) x c (omega arith) e; known = known-links (h .known) xs p }
 
   more-curve-words : {w′ : List ℕ} {n : ℕ} (x : Name) → n ≡ length (m .curves) → n < roomCurves → Sits text x → w′ ≡ splice w (curvesAt + n * idSize) (idWords x) → Words text (withCurves (m .curves ++ (x ∷ [])) m) w′
   unfolding wordBlocks
@@ -123,9 +137,15 @@ module _ {text : List ℕ} {m : Network} {w : List ℕ} (h : Words text m w) whe
   unfolding wordBlocks
   more-multiplier-words {n = n} x c r e = record { exact = add-record (multiplier-words-lie (h .known)) (h .exact) x c (omega arith) (rw mul-one e); known = known-multipliers (h .known) (m .multipliers ++ (x ∷ [])) (more (h .known .multipliers) x c r tt) }
 
-  more-demand-words : {w′ : List ℕ} {n : ℕ} (x : Demand) → n ≡ length (m .demands) → n < roomDemands → SitsOr text (x .pattern) → w′ ≡ splice w (demandsAt + n * demandSize) (demandWords x) → Words text (withDemands (m .demands ++ (x ∷ [])) m) w′
+  more-demand-words : {w′ : List ℕ} {n : ℕ} (x : Demand) → n ≡ length (m .demands) → n < roomDemands → SitsOr text (x .pattern) → w′ ≡ demandAdded w n x → Words text (withDemands (m .demands ++ (x ∷ [])) m) w′
   unfolding wordBlocks
-  more-demand-words {n = n} x c r a e = record { exact = add-record (demand-words-lie (h .known)) (h .exact) x c (omega arith) e; known = known-demands (h .known) (m .demands ++ (x ∷ [])) (more (h .known .demands) x c r a) }
+  more-demand-words {n = n} x c r a e =
+      let xs : List Demand = m .demands ++ (x ∷ []) in
+      let p = more (h .known .demands) x c r a in
+      let g = demand-words-lie (h .known) in
+      let at : Slotted demandSlot (set (wordBlocks m) 6 (region demandWords 0 2560 xs)) 12 256 demandSlotsAt (m .demands) =
+      record { sizes = wordSizes; sized = sizes-kept g (h .exact) xs (omega (arith, p .bound)) ∙ word-sizes (h .known); start = refl; block = omega arith; is = refl } in
+      record { exact = add-slot at (add-record g (h .exact) x c (omega arith) refl) x c (omega arith) e; known = known-demands (h .known) xs p }
 
   more-rule-words : {w′ : List ℕ} {n : ℕ} (x : Rule) → n ≡ length (m .rules) → n < roomRules → Sits text (x .id) → w′ ≡ splice w (rulesAt + n * ruleSize) (ruleWords x) → Words text (withRules (m .rules ++ (x ∷ [])) m) w′
   unfolding wordBlocks
@@ -144,28 +164,33 @@ module _ {text : List ℕ} {m : Network} {w : List ℕ} (h : Words text m w) whe
   many-clause-words {n = n} xs c r e = record { exact = add-records (clause-words-lie (h .known)) (h .exact) xs c (omega arith) e; known = known-clauses (h .known) (m .clauses ++ xs) (many (h .known .clauses) xs c r (each-any xs)) }
 
   -- node i becomes x, which differs from it in `part`; or is encoded alike
-  part-node-words : {w′ : List ℕ} (i off : ℕ) (part : List ℕ) (x0 x : Node) → i < length (m .nodes) → off + length part ≤ nodeSize → NodeFine text x → nodeWords x ≡ splice (nodeWords (getD (m .nodes) i x0)) off part
+  -- a changed record has the slot that it had
+  kept-node-slots : (b : List ℕ) (i : ℕ) (x0 x : Node) → nodeSlot x ≡ nodeSlot (getD (m .nodes) i x0) → blocks (set (wordBlocks m) 0 b) ≡ blocks (set (set (wordBlocks m) 0 b) 10 (slots nodeSlot 615 (set (m .nodes) i x)))
+  unfolding wordBlocks
+  kept-node-slots b i x0 x s = ap (λ (l : List ℕ). blocks (set (set (wordBlocks m) 0 b) 10 l)) (slots-same nodeSlot 615 (m .nodes) i x0 x s)
+
+  kept-demand-slots : (b : List ℕ) (i : ℕ) (x0 x : Demand) → demandSlot x ≡ demandSlot (getD (m .demands) i x0) → blocks (set (wordBlocks m) 6 b) ≡ blocks (set (set (wordBlocks m) 6 b) 12 (slots demandSlot 256 (set (m .demands) i x)))
+  unfolding wordBlocks
+  kept-demand-slots b i x0 x s = ap (λ (l : List ℕ). blocks (set (set (wordBlocks m) 6 b) 12 l)) (slots-same demandSlot 256 (m .demands) i x0 x s)
+
+  part-node-words : {w′ : List ℕ} (i off : ℕ) (part : List ℕ) (x0 x : Node) → i < length (m .nodes) → off + length part ≤ nodeSize → NodeFine text x → nodeSlot x ≡ nodeSlot (getD (m .nodes) i x0) → nodeWords x ≡ splice (nodeWords (getD (m .nodes) i x0)) off part
       → w′ ≡ splice w (nodesAt + i * nodeSize + off) part → Words text (withNodes (set (m .nodes) i x) m) w′
   unfolding wordBlocks
-  part-node-words i off part x0 x hi hp a q e = record { exact = change-part (node-words-lie (h .known)) (h .exact) i off part x0 x hi hp q e; known = known-nodes (h .known) (set (m .nodes) i x) (other (h .known .nodes) i x a) }
+  part-node-words i off part x0 x hi hp a s q e = record { exact = change-part (node-words-lie (h .known)) (h .exact) i off part x0 x hi hp q e ∙ kept-node-slots (region nodeWords 0 2048 (set (m .nodes) i x)) i x0 x s; known = known-nodes (h .known) (set (m .nodes) i x) (other (h .known .nodes) i x a) }
 
-  alike-node-words : (i : ℕ) (x0 x : Node) → NodeFine text x → nodeWords x ≡ nodeWords (getD (m .nodes) i x0) → Words text (withNodes (set (m .nodes) i x) m) w
+  alike-node-words : (i : ℕ) (x0 x : Node) → NodeFine text x → nodeSlot x ≡ nodeSlot (getD (m .nodes) i x0) → nodeWords x ≡ nodeWords (getD (m .nodes) i x0) → Words text (withNodes (set (m .nodes) i x) m) w
   unfolding wordBlocks
-  alike-node-words i x0 x a q = record { exact = keep-record (node-words-lie (h .known)) (h .exact) i x0 x q refl; known = known-nodes (h .known) (set (m .nodes) i x) (other (h .known .nodes) i x a) }
+  alike-node-words i x0 x a s q = record { exact = keep-record (node-words-lie (h .known)) (h .exact) i x0 x q refl ∙ kept-node-slots (region nodeWords 0 2048 (set (m .nodes) i x)) i x0 x s; known = known-nodes (h .known) (set (m .nodes) i x) (other (h .known .nodes) i x a) }
 
   -- demand i becomes x, which differs from it in `part`; or is encoded alike
-  part-demand-words : {w′ : List ℕ} (i off : ℕ) (part : List ℕ) (x0 x : Demand) → i < length (m .demands) → off + length part ≤ demandSize → SitsOr text (x .pattern) → demandWords x ≡ splice (demandWords (getD (m .demands) i x0)) off part
+  part-demand-words : {w′ : List ℕ} (i off : ℕ) (part : List ℕ) (x0 x : Demand) → i < length (m .demands) → off + length part ≤ demandSize → SitsOr text (x .pattern) → demandSlot x ≡ demandSlot (getD (m .demands) i x0) → demandWords x ≡ splice (demandWords (getD (m .demands) i x0)) off part
       → w′ ≡ splice w (demandsAt + i * demandSize + off) part → Words text (withDemands (set (m .demands) i x) m) w′
   unfolding wordBlocks
-  part-demand-words i off part x0 x hi hp a q e = record { exact = change-part (demand-words-lie (h .known)) (h .exact) i off part x0 x hi hp q e; known = known-demands (h .known) (set (m .demands) i x) (other (h .known .demands) i x a) }
+  part-demand-words i off part x0 x hi hp a s q e = record { exact = change-part (demand-words-lie (h .known)) (h .exact) i off part x0 x hi hp q e ∙ kept-demand-slots (region demandWords 0 2560 (set (m .demands) i x)) i x0 x s; known = known-demands (h .known) (set (m .demands) i x) (other (h .known .demands) i x a) }
 
-  alike-demand-words : (i : ℕ) (x0 x : Demand) → SitsOr text (x .pattern) → demandWords x ≡ demandWords (getD (m .demands) i x0) → Words text (withDemands (set (m .demands) i x) m) w
+  other-demand-words : {w′ : List ℕ} (i : ℕ) (x0 x : Demand) → i < length (m .demands) → SitsOr text (x .pattern) → demandSlot x ≡ demandSlot (getD (m .demands) i x0) → w′ ≡ splice w (demandsAt + i * demandSize) (demandWords x) → Words text (withDemands (set (m .demands) i x) m) w′
   unfolding wordBlocks
-  alike-demand-words i x0 x a q = record { exact = keep-record (demand-words-lie (h .known)) (h .exact) i x0 x q refl; known = known-demands (h .known) (set (m .demands) i x) (other (h .known .demands) i x a) }
-
-  other-demand-words : {w′ : List ℕ} (i : ℕ) (x0 x : Demand) → i < length (m .demands) → SitsOr text (x .pattern) → w′ ≡ splice w (demandsAt + i * demandSize) (demandWords x) → Words text (withDemands (set (m .demands) i x) m) w′
-  unfolding wordBlocks
-  other-demand-words i x0 x hi a e = record { exact = change-record (demand-words-lie (h .known)) (h .exact) i x0 x hi e; known = known-demands (h .known) (set (m .demands) i x) (other (h .known .demands) i x a) }
+  other-demand-words i x0 x hi a s e = record { exact = change-record (demand-words-lie (h .known)) (h .exact) i x0 x hi e ∙ kept-demand-slots (region demandWords 0 2560 (set (m .demands) i x)) i x0 x s; known = known-demands (h .known) (set (m .demands) i x) (other (h .known .demands) i x a) }
 
   other-time-words : {w′ : List ℕ} (i : ℕ) (x : Option ℕ) → i < 6 → w′ ≡ splice w (timesAt + i * timeSize) (countWords x) → Words text (withTimes (set (m .times) i x) m) w′
   unfolding wordBlocks
@@ -254,11 +279,11 @@ value-numbers i (x ∷ xs) = ap (λ (l : List Float). x ∷ l) (value-numbers i 
 -- ---- both tables
 module _ {text : List ℕ} {m : Network} {s : Counts} {w : List ℕ} {f : List Float} (h : Holds text m s w f) where
   pub add-node : {w′ : List ℕ} {f′ : List Float} {n : ℕ} (x : Node) → n ≡ length (m .nodes) → n < roomNodes → NodeFine text x
-      → w′ ≡ splice w (nodesAt + n * nodeSize) (nodeWords x) → f′ ≡ splice f (nodeNumbersAt + n * nodeNumbersSize) (nodeNumbers x) → Holds text (withNodes (m .nodes ++ (x ∷ [])) m) (countsOf (withNodes (m .nodes ++ (x ∷ [])) m)) w′ f′
+      → w′ ≡ nodeAdded w n x → f′ ≡ splice f (nodeNumbersAt + n * nodeNumbersSize) (nodeNumbers x) → Holds text (withNodes (m .nodes ++ (x ∷ [])) m) (countsOf (withNodes (m .nodes ++ (x ∷ [])) m)) w′ f′
   add-node x c r a ew ef = record { counts = refl; words = more-node-words (h .words) x c r a ew; numbers = more-node-numbers (h .words .known) (h .numbers) x c r ef }
 
   pub add-link : {w′ : List ℕ} {f′ : List Float} {n : ℕ} (x : Link) → n ≡ length (m .links) → n < roomLinks → Sits text (x .id)
-      → w′ ≡ splice w (linksAt + n * linkSize) (linkWords x) → f′ ≡ splice f (linkNumbersAt + n * linkNumbersSize) (linkNumbers x) → Holds text (withLinks (m .links ++ (x ∷ [])) m) (countsOf (withLinks (m .links ++ (x ∷ [])) m)) w′ f′
+      → w′ ≡ linkAdded w n x → f′ ≡ splice f (linkNumbersAt + n * linkNumbersSize) (linkNumbers x) → Holds text (withLinks (m .links ++ (x ∷ [])) m) (countsOf (withLinks (m .links ++ (x ∷ [])) m)) w′ f′
   add-link x c r a ew ef = record { counts = refl; words = more-link-words (h .words) x c r a ew; numbers = more-link-numbers (h .words .known) (h .numbers) x c r ef }
 
   pub add-curve : {w′ : List ℕ} {n : ℕ} (x : Name) → n ≡ length (m .curves) → n < roomCurves → Sits text x → w′ ≡ splice w (curvesAt + n * idSize) (idWords x) → Holds text (withCurves (m .curves ++ (x ∷ [])) m) (countsOf (withCurves (m .curves ++ (x ∷ [])) m)) w′ f
@@ -276,7 +301,7 @@ module _ {text : List ℕ} {m : Network} {s : Counts} {w : List ℕ} {f : List F
   add-multiplier x c r ew ef = record { counts = refl; words = more-multiplier-words (h .words) x c r ew; numbers = more-multiplier-numbers (h .words .known) (h .numbers) x c r ef }
 
   pub add-demand : {w′ : List ℕ} {f′ : List Float} {n : ℕ} (x : Demand) → n ≡ length (m .demands) → n < roomDemands → SitsOr text (x .pattern)
-      → w′ ≡ splice w (demandsAt + n * demandSize) (demandWords x) → f′ ≡ splice f (demandNumbersAt + n) (demandNumbers x) → Holds text (withDemands (m .demands ++ (x ∷ [])) m) (countsOf (withDemands (m .demands ++ (x ∷ [])) m)) w′ f′
+      → w′ ≡ demandAdded w n x → f′ ≡ splice f (demandNumbersAt + n) (demandNumbers x) → Holds text (withDemands (m .demands ++ (x ∷ [])) m) (countsOf (withDemands (m .demands ++ (x ∷ [])) m)) w′ f′
   add-demand x c r a ew ef = record { counts = refl; words = more-demand-words (h .words) x c r a ew; numbers = more-demand-numbers (h .words .known) (h .numbers) x c r ef }
 
   pub add-rule : {w′ : List ℕ} {n : ℕ} (x : Rule) → n ≡ length (m .rules) → n < roomRules → Sits text (x .id) → w′ ≡ splice w (rulesAt + n * ruleSize) (ruleWords x) → Holds text (withRules (m .rules ++ (x ∷ [])) m) (countsOf (withRules (m .rules ++ (x ∷ [])) m)) w′ f
@@ -304,37 +329,37 @@ module _ {text : List ℕ} {m : Network} {s : Counts} {w : List ℕ} {f : List F
       }
 
   -- a node changed in some words and some numbers, in some numbers alone, in some words alone
-  pub change-node : {w′ : List ℕ} {f′ : List Float} (i : ℕ) (x0 x : Node) (off : ℕ) (part : List ℕ) (offN : ℕ) (partN : List Float) → i < length (m .nodes) → NodeFine text x
+  pub change-node : {w′ : List ℕ} {f′ : List Float} (i : ℕ) (x0 x : Node) (off : ℕ) (part : List ℕ) (offN : ℕ) (partN : List Float) → i < length (m .nodes) → NodeFine text x → nodeSlot x ≡ nodeSlot (getD (m .nodes) i x0)
       → off + length part ≤ nodeSize → nodeWords x ≡ splice (nodeWords (getD (m .nodes) i x0)) off part
       → offN + length partN ≤ nodeNumbersSize → nodeNumbers x ≡ splice (nodeNumbers (getD (m .nodes) i x0)) offN partN
       → w′ ≡ splice w (nodesAt + i * nodeSize + off) part → f′ ≡ splice f (nodeNumbersAt + i * nodeNumbersSize + offN) partN
       → Holds text (withNodes (set (m .nodes) i x) m) (countsOf (withNodes (set (m .nodes) i x) m)) w′ f′
-  change-node i x0 x off part offN partN hi a hp q hN qN ew ef =
-      record { counts = refl; words = part-node-words (h .words) i off part x0 x hi hp a q ew; numbers = part-node-numbers (h .words .known) (h .numbers) i offN partN x0 x hi hN qN ef }
+  change-node i x0 x off part offN partN hi a s hp q hN qN ew ef =
+      record { counts = refl; words = part-node-words (h .words) i off part x0 x hi hp a s q ew; numbers = part-node-numbers (h .words .known) (h .numbers) i offN partN x0 x hi hN qN ef }
 
-  pub change-node-numbers : {f′ : List Float} (i : ℕ) (x0 x : Node) (off : ℕ) (part : List Float) → i < length (m .nodes) → NodeFine text x → nodeWords x ≡ nodeWords (getD (m .nodes) i x0)
+  pub change-node-numbers : {f′ : List Float} (i : ℕ) (x0 x : Node) (off : ℕ) (part : List Float) → i < length (m .nodes) → NodeFine text x → nodeSlot x ≡ nodeSlot (getD (m .nodes) i x0) → nodeWords x ≡ nodeWords (getD (m .nodes) i x0)
       → off + length part ≤ nodeNumbersSize → nodeNumbers x ≡ splice (nodeNumbers (getD (m .nodes) i x0)) off part → f′ ≡ splice f (nodeNumbersAt + i * nodeNumbersSize + off) part
       → Holds text (withNodes (set (m .nodes) i x) m) (countsOf (withNodes (set (m .nodes) i x) m)) w f′
-  change-node-numbers i x0 x off part hi a q hN qN ef =
-      record { counts = refl; words = alike-node-words (h .words) i x0 x a q; numbers = part-node-numbers (h .words .known) (h .numbers) i off part x0 x hi hN qN ef }
+  change-node-numbers i x0 x off part hi a s q hN qN ef =
+      record { counts = refl; words = alike-node-words (h .words) i x0 x a s q; numbers = part-node-numbers (h .words .known) (h .numbers) i off part x0 x hi hN qN ef }
 
-  pub change-node-words : {w′ : List ℕ} (i : ℕ) (x0 x : Node) (off : ℕ) (part : List ℕ) → i < length (m .nodes) → NodeFine text x
+  pub change-node-words : {w′ : List ℕ} (i : ℕ) (x0 x : Node) (off : ℕ) (part : List ℕ) → i < length (m .nodes) → NodeFine text x → nodeSlot x ≡ nodeSlot (getD (m .nodes) i x0)
       → off + length part ≤ nodeSize → nodeWords x ≡ splice (nodeWords (getD (m .nodes) i x0)) off part → nodeNumbers x ≡ nodeNumbers (getD (m .nodes) i x0)
       → w′ ≡ splice w (nodesAt + i * nodeSize + off) part → Holds text (withNodes (set (m .nodes) i x) m) (countsOf (withNodes (set (m .nodes) i x) m)) w′ f
-  change-node-words i x0 x off part hi a hp q qN ew =
-      record { counts = refl; words = part-node-words (h .words) i off part x0 x hi hp a q ew; numbers = alike-node-numbers (h .words .known) (h .numbers) i x0 x qN }
+  change-node-words i x0 x off part hi a s hp q qN ew =
+      record { counts = refl; words = part-node-words (h .words) i off part x0 x hi hp a s q ew; numbers = alike-node-numbers (h .words .known) (h .numbers) i x0 x qN }
 
   -- a demand overwritten, and one changed in some words alone
-  pub change-demand : {w′ : List ℕ} {f′ : List Float} (i : ℕ) (x0 x : Demand) → i < length (m .demands) → SitsOr text (x .pattern)
+  pub change-demand : {w′ : List ℕ} {f′ : List Float} (i : ℕ) (x0 x : Demand) → i < length (m .demands) → SitsOr text (x .pattern) → demandSlot x ≡ demandSlot (getD (m .demands) i x0)
       → w′ ≡ splice w (demandsAt + i * demandSize) (demandWords x) → f′ ≡ splice f (demandNumbersAt + i) (demandNumbers x)
       → Holds text (withDemands (set (m .demands) i x) m) (countsOf (withDemands (set (m .demands) i x) m)) w′ f′
-  change-demand i x0 x hi a ew ef = record { counts = refl; words = other-demand-words (h .words) i x0 x hi a ew; numbers = other-demand-numbers (h .words .known) (h .numbers) i x0 x hi ef }
+  change-demand i x0 x hi a s ew ef = record { counts = refl; words = other-demand-words (h .words) i x0 x hi a s ew; numbers = other-demand-numbers (h .words .known) (h .numbers) i x0 x hi ef }
 
-  pub change-demand-words : {w′ : List ℕ} (i : ℕ) (x0 x : Demand) (off : ℕ) (part : List ℕ) → i < length (m .demands) → SitsOr text (x .pattern)
+  pub change-demand-words : {w′ : List ℕ} (i : ℕ) (x0 x : Demand) (off : ℕ) (part : List ℕ) → i < length (m .demands) → SitsOr text (x .pattern) → demandSlot x ≡ demandSlot (getD (m .demands) i x0)
       → off + length part ≤ demandSize → demandWords x ≡ splice (demandWords (getD (m .demands) i x0)) off part → demandNumbers x ≡ demandNumbers (getD (m .demands) i x0)
       → w′ ≡ splice w (demandsAt + i * demandSize + off) part → Holds text (withDemands (set (m .demands) i x) m) (countsOf (withDemands (set (m .demands) i x) m)) w′ f
-  change-demand-words i x0 x off part hi a hp q qN ew =
-      record { counts = refl; words = part-demand-words (h .words) i off part x0 x hi hp a q ew; numbers = alike-demand-numbers (h .words .known) (h .numbers) i x0 x qN }
+  change-demand-words i x0 x off part hi a s hp q qN ew =
+      record { counts = refl; words = part-demand-words (h .words) i off part x0 x hi hp a s q ew; numbers = alike-demand-numbers (h .words .known) (h .numbers) i x0 x qN }
 
   -- a time overwritten
   pub set-time : {w′ : List ℕ} (i : ℕ) (x : Option ℕ) → i < 6 → w′ ≡ splice w (timesAt + i * timeSize) (countWords x) → Holds text (withTimes (set (m .times) i x) m) (countsOf (withTimes (set (m .times) i x) m)) w′ f

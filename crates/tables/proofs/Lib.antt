@@ -1,5 +1,6 @@
 -- What the proofs of several functions use, here and in the crates that link this one.
 pub mod RegionLaws
+pub mod SlotLaws
 pub mod BlockLaws
 pub mod SizeLaws
 pub mod HoldLaws
@@ -8,4 +9,5 @@ pub mod ReadLaws
 pub mod ClearLaws
 pub mod LookLaws
 pub mod WalkLaws
+pub mod StartLaws
 pub mod AfterLaws

@@ -8,11 +8,12 @@ use lib.ListN.{length, length-append}
 use lib.Ieee.{Float}
 use Rattle.fields.specs.Fields.{Name}
 use Rattle.scope.specs.Records.{Network, Node, NodeKind, junction, reservoir, tank, Place, Link, LinkKind, pipe, pump, valve, Point, Multiplier, Demand, Rule, Clause, condition, action, zeroF}
-use Rattle.scope.specs.Tables.{region, blocks, flag, indexNo, idWords, nameWords, countWords, kindWords, kindNumbers, placed, placeNumbers, nodeWords, nodeNumbers, linkKindWords, linkNumbersOf, linkWords, linkNumbers, pointWords, pointNumbers, multiplierWords, multiplierNumbers, demandWords, demandNumbers, ruleWords, clauseWords, clauseNumbers, wordBlocks, numberBlocks}
-use Rattle.tables.specs.Layout.{nodesAt, linksAt, curvesAt, pointsAt, patternsAt, multipliersAt, demandsAt, timesAt, rulesAt, clausesAt, nodeSize, linkSize, idSize, demandSize, timeSize, ruleSize, clauseSize, nodeNumbersAt, linkNumbersAt, pointNumbersAt, multiplierNumbersAt, demandNumbersAt, clauseNumbersAt, nodeNumbersSize, linkNumbersSize, pointNumbersSize}
+use Rattle.scope.specs.Tables.{region, blocks, flag, indexNo, idWords, nameWords, countWords, kindWords, kindNumbers, placed, placeNumbers, nodeWords, nodeNumbers, linkKindWords, linkNumbersOf, linkWords, linkNumbers, pointWords, pointNumbers, multiplierWords, multiplierNumbers, demandWords, demandNumbers, ruleWords, clauseWords, clauseNumbers, nodeSlot, linkSlot, demandSlot, wordBlocks, numberBlocks}
+use Rattle.tables.specs.Layout.{nodesAt, linksAt, curvesAt, pointsAt, patternsAt, multipliersAt, demandsAt, timesAt, rulesAt, clausesAt, nodeSlotsAt, linkSlotsAt, demandSlotsAt, nodeSize, linkSize, idSize, demandSize, timeSize, ruleSize, clauseSize, nodeNumbersAt, linkNumbersAt, pointNumbersAt, multiplierNumbersAt, demandNumbersAt, clauseNumbersAt, nodeNumbersSize, linkNumbersSize, pointNumbersSize}
 use Rattle.tables.specs.Holding.{Known}
 use Rattle.tables.proofs.RegionLaws.{region-length}
-use Rattle.tables.proofs.BlockLaws.{Lies}
+use Rattle.tables.proofs.SlotLaws.{slots-long}
+use Rattle.tables.proofs.BlockLaws.{Lies, Slotted}
 
 -- ---- records
 name-long : (p : Option Name) → length (nameWords p) ≡ 2
@@ -75,7 +76,7 @@ clause-numbers-long (action a) = refl
 
 -- ---- regions
 abbrev pub wordSizes : List ℕ
-wordSizes = 2048 ∷ 2304 ∷ 192 ∷ 1024 ∷ 192 ∷ 2048 ∷ 2560 ∷ 12 ∷ 448 ∷ 3584 ∷ []
+wordSizes = 2048 ∷ 2304 ∷ 192 ∷ 1024 ∷ 192 ∷ 2048 ∷ 2560 ∷ 12 ∷ 448 ∷ 3584 ∷ 615 ∷ 615 ∷ 256 ∷ []
 
 abbrev pub numberSizes : List ℕ
 numberSizes = 2048 ∷ 1024 ∷ 2048 ∷ 2048 ∷ 512 ∷ 512 ∷ []
@@ -95,6 +96,9 @@ module _ {text : List ℕ} {m : Network} (k : Known text m) where
         region-length countWords 0 2 12 count-long (m .times) (omega (arith, k .times)),
         region-length ruleWords 0 7 448 rule-long (m .rules) (omega (arith, k .rules .bound)),
         region-length clauseWords 0 7 3584 clause-long (m .clauses) (omega (arith, k .clauses .bound)),
+        slots-long nodeSlot 615 (m .nodes),
+        slots-long linkSlot 615 (m .links),
+        slots-long demandSlot 256 (m .demands),
       )
 
   pub number-sizes : map length (numberBlocks m) ≡ numberSizes
@@ -148,6 +152,18 @@ module _ {text : List ℕ} {m : Network} (k : Known text m) where
   pub clause-words-lie : Lies clauseWords 0 (wordBlocks m) 9 3584 clausesAt clauseSize (m .clauses)
   unfolding wordBlocks
   clause-words-lie = record { sizes = wordSizes; sized = word-sizes; start = refl; block = omega arith; same-size = clause-long; is = refl; fit = omega (arith, k .clauses .bound) }
+
+  pub node-slots-lie : Slotted nodeSlot (wordBlocks m) 10 615 nodeSlotsAt (m .nodes)
+  unfolding wordBlocks
+  node-slots-lie = record { sizes = wordSizes; sized = word-sizes; start = refl; block = omega arith; is = refl }
+
+  pub link-slots-lie : Slotted linkSlot (wordBlocks m) 11 615 linkSlotsAt (m .links)
+  unfolding wordBlocks
+  link-slots-lie = record { sizes = wordSizes; sized = word-sizes; start = refl; block = omega arith; is = refl }
+
+  pub demand-slots-lie : Slotted demandSlot (wordBlocks m) 12 256 demandSlotsAt (m .demands)
+  unfolding wordBlocks
+  demand-slots-lie = record { sizes = wordSizes; sized = word-sizes; start = refl; block = omega arith; is = refl }
 
   pub node-numbers-lie : Lies nodeNumbers zeroF (numberBlocks m) 0 2048 nodeNumbersAt nodeNumbersSize (m .nodes)
   unfolding numberBlocks

@@ -12,7 +12,7 @@ use Rattle.letters.specs.Words.{same}
 use Rattle.scope.specs.Records.{lookup, lookupFrom, noName}
 use Rattle.scope.specs.Tables.{keyOf}
 use Rattle.scope.specs.declared.Found.the-variants.{At, Nowhere}
-use Rattle.tables.specs.Holding.{Row, Rows, SomeRow, SomeRows, InTable, OtherWords}
+use Rattle.tables.specs.Holding.{Row, Rows, SomeRow, SomeRows, InTable, OtherWords, OtherNames}
 use Rattle.tables.proofs.LookLaws.{look-here, look-on, look-end, other-key}
 
 -- ---- the walk to the next row that may have a word
@@ -61,8 +61,14 @@ module _ (text w : List ℕ) (base stride count : ℕ) (name : List ℕ) where
   abbrev pub Searched : ℕ → Type 0
   Searched i = (i ≤ count) × ((ns : List Name) → count ≡ length ns → Rows text w base stride ns → lookupFrom i (drop i ns) name ≡ lookup ns name)
 
-  pub start-search : Searched 0
-  start-search = (omega arith, λ ns k rows. refl)
+  names-past : (ns : List Name) → Rows text w base stride ns → (b : ℕ) → b ≤ length ns → OtherNames text w base stride name b → lookupFrom b (drop b ns) name ≡ lookup ns name
+  names-past ns rows zero h o = refl
+  names-past ns rows (suc i) h o =
+      let b : i < length ns = omega arith in
+      sym (look-on ns i name b (o i (omega arith) (getD ns i noName) (rows i b))) ∙ names-past ns rows i (omega arith) (λ j l. o j (omega arith))
+
+  pub start-search : (b : ℕ) → b ≤ count → OtherNames text w base stride name b → Searched b
+  start-search b h o = (h, λ ns k rows. names-past ns rows b (omega (arith, k)) o)
 
   module _ (i : ℕ) (g : Searched i) where
     module _ (t : Bool) (is : (n : Name) → Row text w (base + i * stride) n → t ≡ same (n .letters) name) where

@@ -1,11 +1,12 @@
 -- The two tables, and the counts, hold a network. Assumes nothing.
-use Prim.Native.Nat.{ℕ, _+_, _*_, _≤_, _<_}
+use Prim.Native.Nat.{ℕ, suc, _+_, _*_, _≤_, _<_}
 use mathlib.Core.Path.{_≡_}
 use mathlib.Core.List.{List, [], _∷_}
 use mathlib.Core.Bool.{Bool, true, false}
 use mathlib.Core.Option.{Option, none, some}
 use lib.ListN.{length, getD}
 use lib.Ieee.{Float}
+use Rattle.letters.specs.Words.{same}
 use Rattle.fields.specs.Fields.{Name, part}
 pub use Rattle.fields.specs.Fields.{optIn, MayFit}
 use Rattle.scope.specs.Records.{Network, Node, NodeKind, junction, reservoir, tank, Link, LinkKind, pipe, pump, valve, Point, Multiplier, Demand, Rule, Clause, zeroF, countsOf, noName}
@@ -129,6 +130,15 @@ InTable w first stride count = (j : ℕ) → j < count → first + j * stride < 
 -- those of the rows from number a on and before number b are others
 abbrev pub OtherWords : List ℕ → ℕ → ℕ → ℕ → ℕ → ℕ → Type 0
 OtherWords w first stride word a b = (j : ℕ) → a ≤ j → j < b → getD w (first + j * stride) 0 ≡ word → ⊥
+
+-- ---- where a walk may start
+-- the rows before number b have other names
+abbrev pub OtherNames : List ℕ → List ℕ → ℕ → ℕ → List ℕ → ℕ → Type 0
+OtherNames text w base stride name b = (j : ℕ) → j < b → (n : Name) → Row text w (base + j * stride) n → same (n .letters) name ≡ false
+
+-- a slot that holds v is no slot of a row before number b: a row's slot holds its place plus one, or an earlier row's
+abbrev pub NotInSlot : ℕ → ℕ → Type 0
+NotInSlot v b = (j : ℕ) → j < b → 0 < v → v ≤ suc j → ⊥
 
 -- ---- small things
 -- a place that was found is below n

@@ -33,6 +33,16 @@ rulesAt = 10380
 abbrev pub clausesAt : ℕ
 clausesAt = 10828
 
+-- the slots of nodes, links and demands
+abbrev pub nodeSlotsAt : ℕ
+nodeSlotsAt = 14412
+
+abbrev pub linkSlotsAt : ℕ
+linkSlotsAt = 15027
+
+abbrev pub demandSlotsAt : ℕ
+demandSlotsAt = 15642
+
 abbrev pub nodeSize : ℕ
 nodeSize = 8
 

@@ -2,3 +2,4 @@
 pub mod Table
 pub mod Layout
 pub mod Holding
+pub mod Adding

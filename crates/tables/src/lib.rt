@@ -8,10 +8,10 @@ ghost use Rattle.letters.specs.Words.{same};
 ghost use Rattle.scope.specs.Records.{Network, zeroF, lookup, nodeIds, linkIds, ruleIds, noNode};
 ghost use Rattle.scope.specs.Rules.{noLink, isPipe, isPump, isValve};
 ghost use Rattle.scope.specs.Series.{placeIn};
-ghost use Rattle.scope.specs.Tables.{keyOf, idWords, nameWords, flag, indexNo, pipeStatusNo, statusNo, typeNo, targetNo, comparisonNo, operatorNo, valueNo, valueNumber};
+ghost use Rattle.scope.specs.Tables.{recordWords, keyOf, marked, slotOf, idWords, nameWords, flag, indexNo, pipeStatusNo, statusNo, typeNo, targetNo, comparisonNo, operatorNo, valueNo, valueNumber};
 ghost use Rattle.scope.specs.declared.Target.the-variants as target;
 ghost use Rattle.tables.specs.Table.{splice};
-ghost use Rattle.tables.specs.Holding.{optIn, Words, Row, Rows, SomeRow, SomeRows, InTable, OtherWords, Below, isJunction};
+ghost use Rattle.tables.specs.Holding.{optIn, Words, Row, Rows, SomeRow, SomeRows, InTable, OtherWords, OtherNames, NotInSlot, Below, isJunction};
 use fields::Field;
 use fields::Span;
 use scope::Comparison;
@@ -51,7 +51,13 @@ pub const RULES: usize = 10380;
 
 pub const CLAUSES: usize = 10828;
 
-pub const RECORD_WORDS: usize = 14412;
+pub const NODE_SLOTS: usize = 14412;
+
+pub const LINK_SLOTS: usize = 15027;
+
+pub const DEMAND_SLOTS: usize = 15642;
+
+pub const RECORD_WORDS: usize = 15898;
 
 pub const NODE_WORDS: usize = 8;
 
@@ -153,6 +159,42 @@ pub fn name_key(name: &[u8]) -> u64
     k
 }
 
+// ---- slots: where a walk over the rows of a table may start
+
+// The slot of a node or a link among those of its table, by the key of its name.
+pub fn slot_of(key: u64) -> usize
+    ensures { λ r. ⌜ r ≡ slotOf key ⌝ }
+{
+    (key % 615) as usize
+}
+
+// The slot at `at` is row i's, unless an earlier row has it.
+pub fn mark(words: &mut [u64], at: usize, i: usize)
+    requires { ⌜ (at < length (now words)) × (i < 65536) ⌝ }
+    ensures { λ _. ⌜ now (words .exit) ≡ marked (now (words .entry)) at (i + 1) ⌝ }
+{
+    if words[at] == 0 {
+        words[at] = i as u64 + 1;
+    }
+}
+
+// The first of `count` rows that has the slot at `at`; where none has it, past them all.
+pub fn first_in_slot(words: &[u64], at: usize, count: usize) -> usize
+    requires { ⌜ at < length (now words) ⌝ }
+    ensures { λ r. ⌜ (r ≤ count) × NotInSlot (getD (now (words .entry)) at 0) r ⌝ }
+{
+    let v = words[at] as usize;
+    if v == 0 {
+        return count;
+    }
+    if count < v {
+        return count;
+    }
+    v - 1
+}
+
+// ---- names looked up
+
 // Whether the row at `row` has the name: its key is compared first, the letters only where the keys are equal.
 fn row_is(text: &[u8], words: &[u64], row: usize, key: u64, name: &[u8]) -> bool
     requires { ⌜ SomeRow (now text) (now words) row × (key ≡ keyOf (now name)) ⌝ }
@@ -204,20 +246,21 @@ pub fn next_with_word(
     i
 }
 
-// The first of `count` rows that has the name.
+// The first of `count` rows that has the name, which has the key; no row before number `from` has it.
 fn find_name(
     text: &[u8],
     words: &[u64],
     base: usize,
     stride: usize,
+    from: usize,
     count: usize,
+    key: u64,
     name: &[u8],
 ) -> Found
-    requires { ⌜ SomeRows (now text) (now words) base stride count × (base < 65536) ⌝ }
+    requires { ⌜ SomeRows (now text) (now words) base stride count × (base < 65536) × (key ≡ keyOf (now name)) × (from ≤ count) × OtherNames (now text) (now words) base stride (now name) from ⌝ }
     ensures { λ r. ⌜ ((ns : List Name) → count ≡ length ns → Rows (now (text .entry)) (now (words .entry)) base stride ns → r ≡ lookup ns (now (name .entry))) ⌝ }
 {
-    let key = name_key(name);
-    let mut i = 0;
+    let mut i = from;
     loop {
         i = next_with_word(words, base + 2, stride, i, count, key);
         if count <= i {
@@ -235,35 +278,44 @@ pub fn find_node(text: &[u8], words: &[u64], count: usize, name: &[u8]) -> Found
     requires { ⌜ ((m : Network) × Words (now text) m (now words) × (count ≡ length (m .nodes))) ⌝ }
     ensures { λ r. ⌜ ((m : Network) → Words (now (text .entry)) m (now (words .entry)) → count ≡ length (m .nodes) → r ≡ lookup (nodeIds m) (now (name .entry))) ⌝ }
 {
-    find_name(text, words, NODES, NODE_WORDS, count, name)
+    let key = name_key(name);
+    let slot = slot_of(key);
+    let from = first_in_slot(words, NODE_SLOTS + slot, count);
+    find_name(text, words, NODES, NODE_WORDS, from, count, key, name)
 }
 
 pub fn find_link(text: &[u8], words: &[u64], count: usize, name: &[u8]) -> Found
     requires { ⌜ ((m : Network) × Words (now text) m (now words) × (count ≡ length (m .links))) ⌝ }
     ensures { λ r. ⌜ ((m : Network) → Words (now (text .entry)) m (now (words .entry)) → count ≡ length (m .links) → r ≡ lookup (linkIds m) (now (name .entry))) ⌝ }
 {
-    find_name(text, words, LINKS, LINK_WORDS, count, name)
+    let key = name_key(name);
+    let slot = slot_of(key);
+    let from = first_in_slot(words, LINK_SLOTS + slot, count);
+    find_name(text, words, LINKS, LINK_WORDS, from, count, key, name)
 }
 
 pub fn find_curve(text: &[u8], words: &[u64], count: usize, name: &[u8]) -> Found
     requires { ⌜ ((m : Network) × Words (now text) m (now words) × (count ≡ length (m .curves))) ⌝ }
     ensures { λ r. ⌜ ((m : Network) → Words (now (text .entry)) m (now (words .entry)) → count ≡ length (m .curves) → r ≡ lookup (m .curves) (now (name .entry))) ⌝ }
 {
-    find_name(text, words, CURVES, ID_WORDS, count, name)
+    let key = name_key(name);
+    find_name(text, words, CURVES, ID_WORDS, 0, count, key, name)
 }
 
 pub fn find_pattern(text: &[u8], words: &[u64], count: usize, name: &[u8]) -> Found
     requires { ⌜ ((m : Network) × Words (now text) m (now words) × (count ≡ length (m .patterns))) ⌝ }
     ensures { λ r. ⌜ ((m : Network) → Words (now (text .entry)) m (now (words .entry)) → count ≡ length (m .patterns) → r ≡ lookup (m .patterns) (now (name .entry))) ⌝ }
 {
-    find_name(text, words, PATTERNS, ID_WORDS, count, name)
+    let key = name_key(name);
+    find_name(text, words, PATTERNS, ID_WORDS, 0, count, key, name)
 }
 
 pub fn find_rule(text: &[u8], words: &[u64], count: usize, name: &[u8]) -> Found
     requires { ⌜ ((m : Network) × Words (now text) m (now words) × (count ≡ length (m .rules))) ⌝ }
     ensures { λ r. ⌜ ((m : Network) → Words (now (text .entry)) m (now (words .entry)) → count ≡ length (m .rules) → r ≡ lookup (ruleIds m) (now (name .entry))) ⌝ }
 {
-    find_name(text, words, RULES, RULE_WORDS, count, name)
+    let key = name_key(name);
+    find_name(text, words, RULES, RULE_WORDS, 0, count, key, name)
 }
 
 // ---- what the words and numbers of a record are
@@ -433,28 +485,28 @@ pub fn value_number(v: Value) -> f64
 // ---- what a record is
 
 pub fn is_junction(words: &[u64], i: usize) -> bool
-    requires { ⌜ (i < 256) × (length (now words) ≡ 14412) ⌝ }
+    requires { ⌜ (i < 256) × (length (now words) ≡ recordWords) ⌝ }
     ensures { λ r. ⌜ ((text : List ℕ) (m : Network) → Words text m (now (words .entry)) → i < length (m .nodes) → r ≡ isJunction (getD (m .nodes) i noNode .kind)) ⌝ }
 {
     words[NODES + i * NODE_WORDS + 3] == 1
 }
 
 pub fn is_pipe(words: &[u64], i: usize) -> bool
-    requires { ⌜ (i < 256) × (length (now words) ≡ 14412) ⌝ }
+    requires { ⌜ (i < 256) × (length (now words) ≡ recordWords) ⌝ }
     ensures { λ r. ⌜ ((text : List ℕ) (m : Network) → Words text m (now (words .entry)) → i < length (m .links) → r ≡ isPipe (getD (m .links) i noLink .kind)) ⌝ }
 {
     words[LINKS + i * LINK_WORDS + 5] == 1
 }
 
 pub fn is_pump(words: &[u64], i: usize) -> bool
-    requires { ⌜ (i < 256) × (length (now words) ≡ 14412) ⌝ }
+    requires { ⌜ (i < 256) × (length (now words) ≡ recordWords) ⌝ }
     ensures { λ r. ⌜ ((text : List ℕ) (m : Network) → Words text m (now (words .entry)) → i < length (m .links) → r ≡ isPump (getD (m .links) i noLink .kind)) ⌝ }
 {
     words[LINKS + i * LINK_WORDS + 5] == 2
 }
 
 pub fn is_valve(words: &[u64], i: usize) -> bool
-    requires { ⌜ (i < 256) × (length (now words) ≡ 14412) ⌝ }
+    requires { ⌜ (i < 256) × (length (now words) ≡ recordWords) ⌝ }
     ensures { λ r. ⌜ ((text : List ℕ) (m : Network) → Words text m (now (words .entry)) → i < length (m .links) → r ≡ isValve (getD (m .links) i noLink .kind)) ⌝ }
 {
     words[LINKS + i * LINK_WORDS + 5] == 3

@@ -1,12 +1,15 @@
 use denote.Ref.{now}
 use mathlib.Core.Path.{ap, _∙_}
+use mathlib.Core.List.{List}
+use Prim.Native.Nat.{ℕ, _+_, _*_}
+use lib.ListN.{getD}
+use lib.Ieee.{Float}
+use Rattle.scope.specs.Tables.{slotOf}
+use Rattle.tables.specs.Table.{splice}
+use Rattle.tables.specs.Layout.{linksAt, linkSize, linkSlotsAt, linkNumbersAt, linkNumbersSize}
+use Rattle.tables.proofs.SlotLaws.{mark-alike}
 use Rattle.links.specs.Storing.{linkIn}
 use Rattle.links.proofs.StoreLaws.{link-row}
-use Prim.Native.Nat.{ℕ, _+_, _*_}
-use mathlib.Core.List.{List}
-use lib.Ieee.{Float}
-use Rattle.tables.specs.Table.{splice}
-use Rattle.tables.specs.Layout.{linksAt, linkSize, linkNumbersAt, linkNumbersSize}
 use borrow.Author.Needs.{needs}
 use Rattle.links.proofs.put_link.Statement.{statement}
 use Rattle.links.proofs.put_link.Tie as tie
@@ -15,8 +18,10 @@ use Rattle.links.proofs.put_link.Lts as lts
 use Rattle.links.proofs.kind_numbers.Reads as kind-numbers-reads
 use Rattle.links.proofs.kind_words.Reads as kind-words-reads
 use Rattle.tables.proofs.id_words.Reads as id-words-reads
+use Rattle.tables.proofs.mark.Reads as mark-reads
 use Rattle.tables.proofs.paste_numbers.Reads as paste-numbers-reads
 use Rattle.tables.proofs.paste_words.Reads as paste-words-reads
+use Rattle.tables.proofs.slot_of.Reads as slot-of-reads
 
 id-words-requires : tie.Need-id-words-requires
 id-words-requires c κs = search needs
@@ -33,32 +38,44 @@ mul-paste-words c = search needs
 add-paste-words : tie.Need-add-paste-words
 add-paste-words c = search needs
 
-array-read-t23 : tie.Need-array-read-t23
-array-read-t23 c = search needs
+array-read-slot-of : tie.Need-array-read-slot-of
+array-read-slot-of c = search needs
 
-array-read-t26 : tie.Need-array-read-t26
-array-read-t26 c = search needs
+array-read-t27 : tie.Need-array-read-t27
+array-read-t27 c = search needs
 
-array-read-t29 : tie.Need-array-read-t29
-array-read-t29 c = search needs
+array-read-t30 : tie.Need-array-read-t30
+array-read-t30 c = search needs
 
-array-read-t34 : tie.Need-array-read-t34
-array-read-t34 c = search needs
+array-read-t35 : tie.Need-array-read-t35
+array-read-t35 c = search needs
 
-array-read-t37 : tie.Need-array-read-t37
-array-read-t37 c = search needs
+array-read-t38 : tie.Need-array-read-t38
+array-read-t38 c = search needs
 
-array-read-t40 : tie.Need-array-read-t40
-array-read-t40 c = search needs
+array-read-t41 : tie.Need-array-read-t41
+array-read-t41 c = search needs
 
-array-read-t43 : tie.Need-array-read-t43
-array-read-t43 c = search needs
+array-read-t44 : tie.Need-array-read-t44
+array-read-t44 c = search needs
 
 slice-aggregate-paste-words : tie.Need-slice-aggregate-paste-words
 slice-aggregate-paste-words c = search needs
 
 paste-words-requires : tie.Need-paste-words-requires
 paste-words-requires c κs = search needs
+
+array-read-slot-of-2 : tie.Need-array-read-slot-of-2
+array-read-slot-of-2 c = search needs
+
+slot-of-requires : tie.Need-slot-of-requires
+slot-of-requires c κs = search needs
+
+add-mark : tie.Need-add-mark
+add-mark c = search needs
+
+mark-requires : tie.Need-mark-requires
+mark-requires c κs = search needs
 
 mul-paste-numbers : tie.Need-mul-paste-numbers
 mul-paste-numbers c = search needs
@@ -79,10 +96,15 @@ same-length-2 : tie.Need-same-length-2
 same-length-2 c = search needs
 
 returns : tie.Need-returns
-returns c = (
-  c .before .before .before .before .before .before .before .paste-words .ensures ∙ ap (λ (r : List ℕ). splice (now (c .before .before .before .before .before .before .before .before .before .before .before .before .before .before .before .before .args .words)) (linksAt + c .before .before .before .before .before .before .before .before .before .before .before .before .before .before .before .before .args .n * linkSize) r) (link-row (linkIn (now (c .before .before .before .before .before .before .before .before .before .before .before .before .before .before .before .before .args .text)) (c .before .before .before .before .before .before .before .before .before .before .before .before .before .before .before .before .args .id) (c .before .before .before .before .before .before .before .before .before .before .before .before .before .before .before .before .args .from) (c .before .before .before .before .before .before .before .before .before .before .before .before .before .before .before .before .args .to) (c .before .before .before .before .before .before .before .before .before .before .before .before .before .before .before .before .args .kind)) (c .before .before .before .before .before .before .before .before .before .before .before .before .id-words .ensures) (c .before .before .before .before .before .before .before .before .before .before .before .kind-words .ensures)),
-  c .before .before .paste-numbers .ensures ∙ ap (λ (r : List Float). splice (now (c .before .before .before .before .before .before .before .before .before .before .before .before .before .before .before .before .args .numbers)) (linkNumbersAt + c .before .before .before .before .before .before .before .before .before .before .before .before .before .before .before .before .args .n * linkNumbersSize) r) (c .before .before .before .before .before .before .before .before .before .before .kind-numbers .ensures (now (c .before .before .before .before .before .before .before .before .before .before .before .before .before .before .before .before .args .text))),
-)
+returns c =
+    let a = c .before .before .before .before .before .before .before .before .before .before .before .before .before .before .before .before .before .before .before .before .before .args in
+    let id = c .before .before .before .before .before .before .before .before .before .before .before .before .before .before .before .before .before .id-words .ensures in
+    let link = linkIn (now (a .text)) (a .id) (a .from) (a .to) (a .kind) in (
+      mark-alike (a .n + 1) (c .before .before .before .before .before .before .before .mark .ensures)
+          (c .before .before .before .before .before .before .before .before .before .before .before .before .paste-words .ensures ∙ ap (λ (r : List ℕ). splice (now (a .words)) (linksAt + a .n * linkSize) r) (link-row link id (c .before .before .before .before .before .before .before .before .before .before .before .before .before .before .before .before .kind-words .ensures)))
+          (ap (λ (k : ℕ). linkSlotsAt + k) (c .before .before .before .before .before .before .before .before .before .slot-of .ensures ∙ ap (λ (l : List ℕ). slotOf (getD l 2 0)) id)),
+      c .before .before .paste-numbers .ensures ∙ ap (λ (r : List Float). splice (now (a .numbers)) (linkNumbersAt + a .n * linkNumbersSize) r) (c .before .before .before .before .before .before .before .before .before .before .before .before .before .before .before .kind-numbers .ensures (now (a .text))),
+    )
 
 pub put-link-spec : {M : Type 1} → statement M
 put-link-spec =
@@ -93,15 +115,19 @@ put-link-spec =
     kind-numbers-requires
     mul-paste-words
     add-paste-words
-    array-read-t23
-    array-read-t26
-    array-read-t29
-    array-read-t34
-    array-read-t37
-    array-read-t40
-    array-read-t43
+    array-read-slot-of
+    array-read-t27
+    array-read-t30
+    array-read-t35
+    array-read-t38
+    array-read-t41
+    array-read-t44
     slice-aggregate-paste-words
     paste-words-requires
+    array-read-slot-of-2
+    slot-of-requires
+    add-mark
+    mark-requires
     mul-paste-numbers
     add-paste-numbers
     slice-aggregate-paste-numbers

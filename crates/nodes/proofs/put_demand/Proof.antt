@@ -1,16 +1,18 @@
 use denote.Ref.{now}
-use mathlib.Core.Path.{ap, _∙_}
+use mathlib.Core.Path.{refl, ap, _∙_}
 use mathlib.Core.List.{List}
 use Prim.Native.Nat.{ℕ, _+_, _*_}
+use Rattle.fields.specs.Fields.{optIn}
 use Rattle.tables.specs.Table.{splice}
 use Rattle.tables.specs.Layout.{demandsAt, demandSize}
-use Rattle.fields.specs.Fields.{optIn}
+use Rattle.tables.proofs.SlotLaws.{mark-alike}
 use Rattle.nodes.proofs.StoreLaws.{own-words}
 use borrow.Author.Needs.{needs}
 use Rattle.nodes.proofs.put_demand.Statement.{statement}
 use Rattle.nodes.proofs.put_demand.Tie as tie
 use Rattle.nodes.proofs.put_demand.Reads as reads
 use Rattle.nodes.proofs.put_demand.Lts as lts
+use Rattle.tables.proofs.mark.Reads as mark-reads
 use Rattle.tables.proofs.name_words.Reads as name-words-reads
 use Rattle.tables.proofs.paste_words.Reads as paste-words-reads
 
@@ -35,11 +37,22 @@ slice-aggregate-paste-words c = search needs
 paste-words-requires : tie.Need-paste-words-requires
 paste-words-requires c κs = search needs
 
+add-mark : tie.Need-add-mark
+add-mark c = search needs
+
+mark-requires : tie.Need-mark-requires
+mark-requires c κs = search needs
+
 same-length : tie.Need-same-length
 same-length c = search needs
 
 returns : tie.Need-returns
-returns c = c .before .before .paste-words .ensures ∙ ap (λ (l : List ℕ). splice (now (c .before .before .before .before .before .before .before .before .args .words)) (demandsAt + c .before .before .before .before .before .before .before .before .args .d * demandSize) l) (own-words (c .before .before .before .before .before .name-words .result) (c .before .before .before .before .before .before .before .before .args .n) (optIn (now (c .before .before .before .before .before .before .before .before .args .text)) (c .before .before .before .before .before .before .before .before .args .pattern)) (c .before .before .before .before .before .name-words .ensures))
+returns c =
+    let a = c .before .before .before .before .before .before .before .before .before .before .before .before .args in
+    mark-alike (a .d + 1) (c .before .before .mark .ensures)
+    (c .before .before .before .before .before .before .paste-words .ensures
+    ∙ ap (λ (l : List ℕ). splice (now (a .words)) (demandsAt + a .d * demandSize) l) (own-words (c .before .before .before .before .before .before .before .before .before .name-words .result) (a .n) (optIn (now (a .text)) (a .pattern)) (c .before .before .before .before .before .before .before .before .before .name-words .ensures)))
+    refl
 
 pub put-demand-spec : {M : Type 1} → statement M
 put-demand-spec =
@@ -52,5 +65,7 @@ put-demand-spec =
     array-read-t20
     slice-aggregate-paste-words
     paste-words-requires
+    add-mark
+    mark-requires
     same-length
     returns)

@@ -1,14 +1,18 @@
 use denote.Ref.{now}
 use mathlib.Core.Path.{ap, _∙_}
 use mathlib.Core.List.{List, [], _∷_}
+use mathlib.Core.Option.{none}
 use Prim.Native.Nat.{ℕ, _+_, _*_}
 use lib.Ieee.{Float}
 use lib.Ieee as Ieee
+use Rattle.fields.specs.Fields.{nameIn}
+use Rattle.scope.specs.Nodes.{junctionDemand}
+use Rattle.scope.specs.Tables.{marked, slotOf, keyOf}
 use Rattle.tables.specs.Table.{splice}
-use Rattle.tables.specs.Layout.{nodesAt, nodeSize, demandsAt, demandSize, demandNumbersAt}
-use mathlib.Core.Option.{none}
-use Rattle.fields.specs.Fields.{nameIn, optIn}
-use Rattle.nodes.specs.Storing.{newWords, ownWords}
+use Rattle.tables.specs.Layout.{nodesAt, nodeSize, nodeSlotsAt, demandNumbersAt}
+use Rattle.tables.specs.Adding.{demandAdded}
+use Rattle.nodelines.specs.Lines.{junctionIn}
+use Rattle.nodes.specs.Storing.{newWords}
 use borrow.Author.Needs.{needs}
 use Rattle.nodes.proofs.put_junction.Statement.{statement}
 use Rattle.nodes.proofs.put_junction.Tie as tie
@@ -57,10 +61,13 @@ same-length-2 c = search needs
 
 returns : tie.Need-returns
 unfolding Ieee.ofBits
-returns c = (
-  c .before .before .before .before .before .before .before .before .before .before .before .before .put-demand .ensures ∙ ap (λ (l : List ℕ). splice l (demandsAt + c .before .before .before .before .before .before .before .before .before .before .before .before .before .before .before .before .before .before .before .before .before .before .before .args .d * demandSize) (ownWords (c .before .before .before .before .before .before .before .before .before .before .before .before .before .before .before .before .before .before .before .before .before .before .before .args .n) (optIn (now (c .before .before .before .before .before .before .before .before .before .before .before .before .before .before .before .before .before .before .before .before .before .before .before .args .text)) (c .before .before .before .before .before .before .before .before .before .before .before .before .before .before .before .before .before .before .before .before .before .before .before .args .j .pattern)))) (c .before .before .before .before .before .before .before .before .before .before .before .before .before .before .before .before .put-node .ensures ∙ ap (λ (z : ℕ). splice (now (c .before .before .before .before .before .before .before .before .before .before .before .before .before .before .before .before .before .before .before .before .before .before .before .args .words)) (nodesAt + c .before .before .before .before .before .before .before .before .before .before .before .before .before .before .before .before .before .before .before .before .before .before .before .args .n * nodeSize) (newWords (nameIn (now (c .before .before .before .before .before .before .before .before .before .before .before .before .before .before .before .before .before .before .before .before .before .before .before .args .text)) (c .before .before .before .before .before .before .before .before .before .before .before .before .before .before .before .before .before .before .before .before .before .before .before .args .j .id)) 1 none z)) (c .before .before .before .before .before .before .before .before .before .before .before .before .before .before .before .before .before .before .flag-of .ensures)),
-  c .before .before .paste-numbers2 .ensures ∙ ap (λ (l : List Float). splice l (demandNumbersAt + c .before .before .before .before .before .before .before .before .before .before .before .before .before .before .before .before .before .before .before .before .before .before .before .args .d) (c .before .before .before .before .before .before .before .before .before .before .before .before .before .before .before .before .before .before .before .before .before .before .before .args .j .demand ∷ [])) (c .before .before .before .before .before .before .before .paste-numbers .ensures),
-)
+returns c =
+    let a = c .before .before .before .before .before .before .before .before .before .before .before .before .before .before .before .before .before .before .before .before .before .before .before .args in
+    let own = junctionDemand (a .n) (junctionIn (now (a .text)) (a .j)) in (
+      c .before .before .before .before .before .before .before .before .before .before .before .before .put-demand .ensures
+          ∙ ap (λ (l : List ℕ). demandAdded l (a .d) own) (c .before .before .before .before .before .before .before .before .before .before .before .before .before .before .before .before .put-node .ensures ∙ ap (λ (z : ℕ). marked (splice (now (a .words)) (nodesAt + a .n * nodeSize) (newWords (nameIn (now (a .text)) (a .j .id)) 1 none z)) (nodeSlotsAt + slotOf (keyOf (nameIn (now (a .text)) (a .j .id) .letters))) (a .n + 1)) (c .before .before .before .before .before .before .before .before .before .before .before .before .before .before .before .before .before .before .flag-of .ensures)),
+      c .before .before .paste-numbers2 .ensures ∙ ap (λ (l : List Float). splice l (demandNumbersAt + a .d) (a .j .demand ∷ [])) (c .before .before .before .before .before .before .before .paste-numbers .ensures),
+    )
 
 pub put-junction-spec : {M : Type 1} → statement M
 put-junction-spec =

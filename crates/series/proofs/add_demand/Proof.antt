@@ -1,11 +1,14 @@
 -- `series::add_demand` meets its contract. Assumes nothing.
+use Prim.Native.Nat.{_+_}
 use native.Mathlib.Omega.{arith}
 use denote.Ref.{now}
-use mathlib.Core.Path.{_≡_, sym, _∙_}
+use lib.ListN.{length}
+use mathlib.Core.Path.{_≡_, refl, sym, _∙_}
 use Rattle.scope.specs.Records.{Network}
 use Rattle.scope.specs.Series.{ownFrom}
 use Rattle.tables.specs.Holding.{Holds}
 use Rattle.tables.proofs.HoldLaws.{count-demands, bound-demands}
+use Rattle.tables.proofs.SlotLaws.{mark-alike}
 use Rattle.tables.proofs.AfterLaws.{holds-words, holds-numbers}
 use Rattle.series.proofs.DemandLaws.{own-in, demands-full, appended, replaced}
 use borrow.Author.Needs.{needs}
@@ -32,8 +35,14 @@ enum-told c = search needs
 put-demand-requires-2 : tie.Need-put-demand-requires-2
 put-demand-requires-2 c κs = (c .before .before .if1 .taken, holds-words (c .before .before .before .before .before .before .before .before .before .before .pre .0 .holds), holds-numbers (c .before .before .before .before .before .before .before .before .before .before .pre .0 .holds))
 
+add-mark : tie.Need-add-mark
+add-mark c = search needs
+
+mark-requires : tie.Need-mark-requires
+mark-requires c κs = (let k : length (c .before .before .before .before .before .put-demand2 .last .1 .1 .1 .1 .0) ≡ length (now (c .before .before .before .before .before .before .before .before .before .before .before .before .before .before .before .before .args .words)) = c .before .before .before .before .before .put-demand2 .kept .1 .1 .1 .1 .0 in omega (arith, k, holds-words (c .before .before .before .before .before .before .before .before .before .before .before .before .before .before .before .before .pre .0 .holds)), omega (arith, c .before .before .before .before .before .before .before .before .if1 .taken))
+
 add-t : tie.Need-add-t
-add-t c = omega (arith, c .before .before .before .before .before .before .before .if1 .taken)
+add-t c = omega (arith, c .before .before .before .before .before .before .before .before .before .before .before .if1 .taken)
 
 same-length : tie.Need-same-length
 same-length c = search needs
@@ -42,7 +51,11 @@ same-length-2 : tie.Need-same-length-2
 same-length-2 c = search needs
 
 returns : tie.Need-returns
-returns c = λ m h. appended h (c .before .before .before .before .before .before .before .before .before .before .before .before .before .before .before .args .d .base) (c .before .before .before .before .before .before .before .before .before .before .before .before .before .before .before .args .d .pattern) (c .before .before .before .before .before .before .before .before .before .before .before .before .before .before .before .args .node) _ _ (look (c .before .before .before .before .before .before .before .before .before .before) m h ∙ c .before .before .before .before .before .before .before .before .enum-told .given .1) (c .before .before .before .before .before .before .before .before .before .before .before .before .before .before .before .pre .1) (c .before .before .before .before .before .before .before .if1 .taken) (c .before .before .before .before .put-demand2 .ensures .0) (c .before .before .before .before .put-demand2 .ensures .1)
+returns c = λ m h.
+    let a = c .before .before .before .before .before .before .before .before .before .before .before .before .before .before .before .before .before .before .before .args in
+    appended h (a .d .base) (a .d .pattern) (a .node) _ _ (look (c .before .before .before .before .before .before .before .before .before .before .before .before .before .before) m h ∙ c .before .before .before .before .before .before .before .before .before .before .before .before .enum-told .given .1) (c .before .before .before .before .before .before .before .before .before .before .before .before .before .before .before .before .before .before .before .pre .1) (c .before .before .before .before .before .before .before .before .before .before .before .if1 .taken)
+    (mark-alike (a .s .demands + 1) (c .before .before .mark .ensures) (c .before .before .before .before .before .before .before .before .put-demand2 .ensures .0) refl)
+    (c .before .before .before .before .before .before .before .before .put-demand2 .ensures .1)
 
 same-length-3 : tie.Need-same-length-3
 same-length-3 c = search needs
@@ -68,6 +81,8 @@ add-demand-spec =
     put-demand-requires
     enum-told
     put-demand-requires-2
+    add-mark
+    mark-requires
     add-t
     same-length
     same-length-2

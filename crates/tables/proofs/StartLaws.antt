@@ -1,0 +1,60 @@
+-- Where a walk over the rows of a table may start: no row before has the slot that is looked for. Assumes nothing.
+use Prim.Native.Nat.{ℕ, _+_, _*_, _%_, _≤_, _<_}
+use native.Mathlib.Omega.{arith}
+use mathlib.Core.Path.{_≡_, refl, sym, ap, _∙_}
+use mathlib.Core.Bool.{Bool, true, false}
+use mathlib.Core.List.{List}
+use lib.ListN.{length, getD}
+use Rattle.letters.specs.Words.{same}
+use Rattle.letters.proofs.WordLaws.{same-equal}
+use Rattle.fields.specs.Fields.{Name}
+use Rattle.scope.specs.Records.{Network, noNode}
+use Rattle.scope.specs.Rules.{noLink}
+use Rattle.scope.specs.Tables.{keyOf, slots, slotOf, nodeSlot, linkSlot, demandSlot}
+use Rattle.tables.specs.Layout.{nodesAt, linksAt, demandsAt, nodeSize, linkSize, demandSize, nodeSlotsAt, linkSlotsAt, demandSlotsAt}
+use Rattle.tables.specs.Holding.{Words, OtherWords, OtherNames, NotInSlot, noDemand}
+use Rattle.tables.proofs.SlotLaws.{slots-first}
+use Rattle.tables.proofs.BlockLaws.{slot-word}
+use Rattle.tables.proofs.SizeLaws.{node-slots-lie, link-slots-lie, demand-slots-lie}
+use Rattle.tables.proofs.ReadLaws.{node-word, link-word, demand-word}
+
+-- ---- the n slots of rs stand in w from `at` on
+module _ {R : Type 0} (slot : R → ℕ) (n : ℕ) (rs : List R) (r0 : R) (w : List ℕ) (at : ℕ)
+    (stand : (h : ℕ) → h < n → getD w (at + h) 0 ≡ getD (slots slot n rs) h 0) (small : (r : R) → slot r < n) where
+  not-before : (j h b : ℕ) → j < length rs → h ≡ slot (getD rs j r0) → NotInSlot (getD w (at + h) 0) b → j < b → ⊥
+  not-before j h b hj e o l =
+      let f = slots-first slot n rs j r0 hj (small (getD rs j r0)) in
+      let q : getD w (at + h) 0 ≡ getD (slots slot n rs) (slot (getD rs j r0)) 0 = rw e (stand (slot (getD rs j r0)) (small (getD rs j r0))) in
+      o j l (omega (arith, f .0, q)) (omega (arith, f .1, q))
+
+  -- rows of names, whose slots are by their keys
+  named-before : (text : List ℕ) (base stride : ℕ) (name : List ℕ) (h b : ℕ) → h ≡ slotOf (keyOf name) → ((j : ℕ) → j < length rs → slotOf (getD w (base + j * stride + 2) 0) ≡ slot (getD rs j r0)) → b ≤ length rs
+      → NotInSlot (getD w (at + h) 0) b → OtherNames text w base stride name b
+  named-before text base stride name h b e keyed hb o j l x row = go (same (x .letters) name) refl
+    where
+      go : (t : Bool) → same (x .letters) name ≡ t → t ≡ false
+      go false q = refl
+      go true q =
+          let hj : j < length rs = omega arith in
+          let k : getD w (base + j * stride + 2) 0 ≡ keyOf name = row .key ∙ ap keyOf (same-equal (x .letters) name q) in
+          absurd (not-before j h b hj (e ∙ ap slotOf (sym k) ∙ keyed j hj) o l)
+
+-- ---- the tables
+module _ {text : List ℕ} {m : Network} {w : List ℕ} (h : Words text m w) where
+  pub nodes-before : (name : List ℕ) (slot b : ℕ) → slot ≡ slotOf (keyOf name) → b ≤ length (m .nodes) → NotInSlot (getD w (nodeSlotsAt + slot) 0) b → OtherNames text w nodesAt nodeSize name b
+  nodes-before name slot b e =
+      named-before nodeSlot 615 (m .nodes) noNode w nodeSlotsAt (slot-word (node-slots-lie (h .known)) (h .exact)) (λ r. omega arith) text nodesAt nodeSize name slot b e
+      (λ j hj. ap slotOf (node-word h j 2 noNode hj (omega arith)))
+
+  pub links-before : (name : List ℕ) (slot b : ℕ) → slot ≡ slotOf (keyOf name) → b ≤ length (m .links) → NotInSlot (getD w (linkSlotsAt + slot) 0) b → OtherNames text w linksAt linkSize name b
+  links-before name slot b e =
+      named-before linkSlot 615 (m .links) noLink w linkSlotsAt (slot-word (link-slots-lie (h .known)) (h .exact)) (λ r. omega arith) text linksAt linkSize name slot b e
+      (λ j hj. ap slotOf (link-word h j 2 noLink hj (omega arith)))
+
+  -- no demand before number b is the node's
+  pub demands-before : (node b : ℕ) → b ≤ length (m .demands) → NotInSlot (getD w (demandSlotsAt + node % 256) 0) b → OtherWords w demandsAt demandSize node 0 b
+  demands-before node b hb o j a l e =
+      let hj : j < length (m .demands) = omega arith in
+      let q : demandsAt + j * demandSize ≡ demandsAt + j * demandSize + 0 = omega arith in
+      let k : node ≡ getD (m .demands) j noDemand .node = sym e ∙ ap (λ (i : ℕ). getD w i 0) q ∙ demand-word h j 0 noDemand hj (omega arith) in
+      not-before demandSlot 256 (m .demands) noDemand w demandSlotsAt (slot-word (demand-slots-lie (h .known)) (h .exact)) (λ r. omega arith) j (node % 256) b hj (ap (λ (i : ℕ). i % 256) k) o l
