@@ -2,9 +2,10 @@
 use mathlib.Core.Path.{_≡_, refl, sym, ap, _∙_, subst}
 use mathlib.Core.Bool.{Bool, true, false, not, cond, _&&_, _||_}
 use mathlib.Core.List.{List}
-use Prim.Native.Nat.{ℕ, _≤_}
+use Prim.Native.Nat.{ℕ, _≤_, _<_}
+use native.Mathlib.Omega.{arith}
 use lib.Dec.{T, leb, eqb}
-use borrow.Author.Tests.{eq-eqb, ne-eqb, leb-true}
+use borrow.Author.Tests.{eq-eqb, ne-eqb, eqb-true, leb-true, le-leb, lt-leb}
 use types.Run.{OneOf, miss}
 use mir.Val.{hasKey}
 use denote.Enum.Declared.{tagOf}
@@ -50,6 +51,10 @@ to-digit Point e = cc
 to-digit Exponent e = cc
 to-digit Other e = cc
 
+-- of what class a digit is
+pub digit-is : (b : ℕ) → is Digit b ≡ true → (d : Class) → is d b ≡ eqb 1 (rank d)
+digit-is b e d = ap (λ (k : Class). eqb (rank k) (rank d)) (to-digit (classOf b) e)
+
 pub digit-range : (b : ℕ) → is Digit b ≡ true → (48 ≤ b) × (b ≤ 57)
 unfolding classOf
 digit-range b e =
@@ -63,3 +68,20 @@ no-digit b n = go (is Digit b) refl
     go : (x : Bool) → is Digit b ≡ x → is Digit b ≡ false
     go true e = absurd (n (digit-range b e))
     go false e = e
+
+-- ---- whitespace: no byte above 32, and no digit
+above : (d g p x : Bool) → eqb (rank (cond d Digit (cond g Sign (cond p Point (cond x Exponent Other))))) 0 ≡ false
+above true g p x = refl
+above false true p x = refl
+above false false true x = refl
+above false false false true = refl
+above false false false false = refl
+
+pub above-space : (b : ℕ) → 32 < b → is Space b ≡ false
+unfolding classOf
+above-space b h =
+    rw (le-leb 9 b (omega arith), lt-leb b 13 (omega arith), ne-eqb b 32 (λ e. omega arith))
+    (above (leb 48 b && leb b 57) (eqb b 43 || eqb b 45) (eqb b 46) (eqb b 69 || eqb b 101))
+
+pub space-no-digit : (b : ℕ) → is Space b ≡ true → is Digit b ≡ false
+space-no-digit b e = ap (λ (n : ℕ). eqb n 1) (eqb-true (rank (classOf b)) 0 e)

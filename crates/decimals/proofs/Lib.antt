@@ -11,5 +11,6 @@ pub mod Classes
 pub mod Digits
 pub mod Words
 pub mod Reading
+pub mod Begun
 pub mod Value
 pub mod Counts

@@ -6,4 +6,5 @@ pub mod Nearest
 pub mod Reach
 pub mod Numbers
 pub mod Cap
+pub mod Begun
 pub mod Rows

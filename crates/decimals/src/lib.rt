@@ -2,7 +2,7 @@
 // specs/Counts.antt what is a count.
 ghost use mathlib.Core.Path.{_≡_};
 ghost use Prim.Native.Nat.{_+_, _-_, _*_, _^_, _<_, _≤_, min};
-ghost use lib.ListN.{length};
+ghost use lib.ListN.{length, drop};
 ghost use Rattle.decimals.specs.Nearest.{gap};
 ghost use Rattle.decimals.specs.Reach.{ten, signed, meaning};
 ghost use Rattle.decimals.specs.Bytes.{classOf, is, lower};
@@ -10,6 +10,7 @@ ghost use Rattle.decimals.specs.Digits.{digits, value};
 ghost use Rattle.decimals.specs.Numbers.{spells, power, exponent, ending, point, unsigned, outcome, numberOf, readingOf, AsRead};
 ghost use Rattle.decimals.specs.Cap.{cap};
 ghost use Rattle.decimals.specs.Counts.{whole, countOf};
+ghost use Rattle.decimals.specs.Begun.{ended, Room, Scanned, Begins};
 
 pub enum Number {
     Value(f64),
@@ -326,6 +327,93 @@ pub fn read_number(s: &[u8]) -> Number
         Class::Sign => read_unsigned(b == 45, &s[1..]),
         _ => read_unsigned(false, s),
     }
+}
+
+// ---- a plain number, as most are written: digits, or digits, a point and digits, and then whitespace or the text's end
+
+// The number and how long it is, or the text begins otherwise.
+pub enum Plain {
+    Is(Number, usize),
+    Other,
+}
+
+// Whether whitespace stands at i, or nothing.
+fn ends_at(s: &[u8], i: usize) -> bool
+    ensures { λ r. ⌜ r ≡ ended (drop i (now (s .entry))) ⌝ }
+{
+    if i < s.len() {
+        let b = s[i];
+        if 32 < b {
+            return false;
+        }
+        return match class_of(b) {
+            Class::Space => true,
+            _ => false,
+        };
+    }
+    true
+}
+
+// Where digits end, and the number that they are, with the digits of `start` before them.
+struct Few {
+    end: usize,
+    value: u64,
+}
+
+// The digits from `from` on, none of them past `to`: so few that no sum overflows.
+fn few_digits(s: &[u8], from: usize, to: usize, start: u64) -> Few
+    requires { ⌜ (from ≤ length (now s)) × (to ≤ length (now s)) × Room start from to ⌝ }
+    ensures { λ r. ⌜ Scanned (now (s .entry)) from start (r .end) (r .value) × Room (r .value) (r .end) to ⌝ }
+{
+    let mut i = from;
+    let mut v = start;
+    while i < to {
+        let b = s[i];
+        if is_digit(b) {
+            v = v * 10 + digit_value(b);
+        } else {
+            return Few { end: i, value: v };
+        }
+        i += 1;
+    }
+    Few { end: i, value: v }
+}
+
+// How far a plain number may reach: 19 digits stay below 2^64.
+fn places(len: usize) -> usize
+    ensures { λ r. ⌜ r ≡ min len 19 ⌝ }
+{
+    if len < 19 { len } else { 19 }
+}
+
+// The number that a text begins with, read while it is scanned.
+pub fn plain_number(s: &[u8]) -> Plain
+    ensures { λ r. ⌜ Begins (now (s .entry)) r ⌝ }
+{
+    let to = places(s.len());
+    let d = few_digits(s, 0, to, 0);
+    let n = d.end;
+    let v = d.value;
+    if n == 0 {
+        return Plain::Other;
+    }
+    if ends_at(s, n) {
+        return Plain::Is(valued(false, v, 0, 0), n);
+    }
+    if s[n] != 46 {
+        return Plain::Other;
+    }
+    let i = n + 1;
+    let f = few_digits(s, i, to, v);
+    let e = f.end;
+    let w = f.value;
+    if e == i {
+        return Plain::Other;
+    }
+    if ends_at(s, e) {
+        return Plain::Is(valued(false, w, 0, e - i), e);
+    }
+    Plain::Other
 }
 
 // ---- a count

@@ -9,14 +9,15 @@ use mathlib.Core.Bool.{Bool, true, false, cond}
 use mathlib.Core.List.{List, [], _∷_, map}
 use lib.ListN.{length, take, drop, getD, length-drop, length-take, drop-of-length-le}
 use lib.Seq.{drop-cons, drop-drop, length-take-le, take-take, take-nil, getD-drop}
+use Rattle.decimals.specs.Begun.{wordLen}
 use Rattle.fields.specs.Lines.{isSpace, startTrimmed, cutOf}
 use Rattle.fields.specs.Fields.{Name, part, nameIn, onFirst, before, fieldsOf, fieldsAt, rest, endOr, Fits, Next, Past}
-use Rattle.fields.specs.Scan.{spanLen}
+use Rattle.fields.specs.Scan.{spanLen, startAt}
 use Rattle.fields.specs.declared.Kind.the-variants.{Space, Word}
 use Rattle.fields.specs.declared.Span.{Span}
 use Rattle.fields.specs.declared.Field.{Field}
 use Rattle.fields.specs.declared.Field.the-variants.{Taken, Nothing}
-use Rattle.fields.proofs.ScanLaws.{span-le, span-stop}
+use Rattle.fields.proofs.ScanLaws.{span-le, span-stop, span-counted}
 use Rattle.fields.proofs.LineLaws.{start-at, cut-prefix}
 
 -- whitespace before the fields is passed over
@@ -73,8 +74,8 @@ is-taken {l} {at} s h k =
     }
 
 -- what the next field is, by where the whitespace and the word end
-module _ (l : List ℕ) (at start end : ℕ) (es : start ≡ at + spanLen Space (drop at l)) where
-  skipped : fieldsAt l at ≡ fieldsAt l start
+module _ (l : List ℕ) (at start end : ℕ) (es : start ≡ startAt l at) where
+  pub skipped : fieldsAt l at ≡ fieldsAt l start
   skipped = fields-skip at (drop at l) ∙ rw (es, drop-drop)
 
   pub next-taken : start < length l → end ≡ start + spanLen Word (drop start l) → Next l at (Taken (record { at = start; end = end }))
@@ -90,6 +91,10 @@ module _ (l : List ℕ) (at start end : ℕ) (es : start ≡ at + spanLen Space 
       let f : First start (drop start l) k = rw d (fields-word start b (drop (suc start) l) ns) in
       let e1 : end - start ≡ k = omega arith in
       is-taken (record { at = start; end = end }) (skipped ∙ f ∙ rw (drop-drop, e1, ee)) (record { some = omega arith; inside = omega (arith, span-le Word (drop start l)) })
+
+  -- where the bytes before the next whitespace were counted
+  pub next-word : start < length l → (n : ℕ) → n ≡ wordLen (drop start l) → end ≡ start + n → Next l at (Taken (record { at = start; end = end }))
+  next-word h n e ee = next-taken h (ee ∙ ap (start +_) (e ∙ sym (span-counted (drop start l))))
 
   pub next-nothing : length l ≤ start → Next l at Nothing
   unfolding fieldsOf
@@ -143,7 +148,7 @@ next-unique l at Nothing Nothing n m = refl
 -- ---- where the next field starts: with what is left of the line, its start trimmed
 module _ (l : List ℕ) (at : ℕ) (f : Field) (n : Next l at f) where
   abbrev start : ℕ
-  start = at + spanLen Space (drop at l)
+  start = startAt l at
 
   none-left : drop start l ≡ [] → fieldsAt l at ≡ []
   unfolding fieldsOf

@@ -1,35 +1,18 @@
--- Which bytes are whitespace; where lines end, and what is left of them. Assumes nothing.
+-- Where lines end, and what is left of them. Assumes nothing.
 use Prim.Native.Nat.{ℕ, zero, suc, _+_, _-_, _≤_, _<_}
 use native.Mathlib.Omega.{arith}
 use mathlib.Core.Path.{_≡_, refl, sym, ap, _∙_}
-use mathlib.Core.Bool.{Bool, true, false, cond, not, _&&_, _||_}
+use mathlib.Core.Bool.{Bool, true, false, cond, not}
 use mathlib.Core.List.{List, [], _∷_, _++_}
 use lib.ListN.{length, take, drop, getD, length-drop, drop-of-length-le}
 use native.Mathlib.Nat.{le-of-lt}
 use lib.Seq.{drop-cons, drop-drop, drop-length, length-take-le, take-all, take-nil, take-suc, getD-drop}
-use lib.Dec.{leb, eqb}
-use borrow.Author.Tests.{le-leb, lt-leb, ne-eqb}
-use Rattle.decimals.specs.Bytes.{classOf, rank}
-use Rattle.decimals.specs.declared.Class.the-variants.{Digit, Sign, Point, Exponent, Other}
+use lib.Dec.{eqb}
 use Rattle.fields.specs.Lines.{isSpace, push, chunks, joined, lineLen, startTrimmed, keepByte, endTrimmed, trimmed, kindBy, lineKind, cutOf}
 use Rattle.fields.specs.Scan.{spanLen, Skips}
 use Rattle.fields.specs.declared.Kind.the-variants.{Space, Kept, Line}
 use Rattle.fields.specs.declared.LineKind.the-variants.{Blank}
 use Rattle.fields.proofs.ScanLaws.{span-stop, skip-past}
-
--- ---- whitespace: no byte above 32
-other-class : (d g p x : Bool) → eqb (rank (cond d Digit (cond g Sign (cond p Point (cond x Exponent Other))))) 0 ≡ false
-other-class true g p x = refl
-other-class false true p x = refl
-other-class false false true x = refl
-other-class false false false true = refl
-other-class false false false false = refl
-
-pub above-space : (b : ℕ) → 32 < b → isSpace b ≡ false
-unfolding classOf
-above-space b h =
-    rw (le-leb 9 b (omega arith), lt-leb b 13 (omega arith), ne-eqb b 32 (λ e. omega arith))
-    (other-class (leb 48 b && leb b 57) (eqb b 43 || eqb b 45) (eqb b 46) (eqb b 69 || eqb b 101))
 
 -- ---- the first line of a text
 -- a line with a line feed, and a last line that lacks it

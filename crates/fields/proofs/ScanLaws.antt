@@ -5,13 +5,16 @@ use native.Mathlib.Nat.{zero-add, suc-add}
 use native.Mathlib.Numerals.{add-one}
 use borrow.Author.Tests.{eq-eqb, ne-eqb}
 use mathlib.Core.Path.{_≡_, refl, sym, ap, _∙_}
-use mathlib.Core.Bool.{Bool, true, false, cond, _||_, false≢true}
+use mathlib.Core.Bool.{Bool, true, false, cond, not, _||_, false≢true}
 use mathlib.Core.List.{List, [], _∷_}
 use lib.ListN.{length, take, drop, getD, length-drop, drop-of-length-le}
 use lib.Seq.{drop-cons, drop-drop}
 use lib.Dec.{eqb}
+use Rattle.decimals.specs.Begun.{wordLen}
+use Rattle.fields.specs.Lines.{isSpace}
 use Rattle.fields.specs.Fields.{part}
 use Rattle.fields.specs.declared.Kind.{Kind}
+use Rattle.fields.specs.declared.Kind.the-variants.{Word}
 use Rattle.fields.specs.Scan.{isKind, spanLen, has, Skips}
 
 module _ (k : Kind) (l : List ℕ) (i : ℕ) where
@@ -46,6 +49,16 @@ span-stop k (b ∷ bs) h = go (isKind k b) refl h (span-stop k bs)
         → (spanLen k bs < length bs → isKind k (getD bs (spanLen k bs) 0) ≡ false) → isKind k (getD (b ∷ bs) (cond t (suc (spanLen k bs)) 0) 0) ≡ false
     go true e h f = f (omega arith)
     go false e h f = e
+
+-- a field is as long as the number's reader counts
+pub span-counted : (l : List ℕ) → spanLen Word l ≡ wordLen l
+unfolding spanLen wordLen
+span-counted [] = refl
+span-counted (b ∷ bs) = go (isSpace b) (span-counted bs)
+  where
+    go : (t : Bool) → spanLen Word bs ≡ wordLen bs → cond (not t) (suc (spanLen Word bs)) 0 ≡ cond t 0 (suc (wordLen bs))
+    go true e = refl
+    go false e = ap suc e
 
 -- ---- a scan for the byte b
 module _ (b : ℕ) where

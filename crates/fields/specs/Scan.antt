@@ -1,5 +1,5 @@
 -- What the scans of this crate promise: no rule of document 01 names them. Assumes nothing.
-use Prim.Native.Nat.{ℕ, suc, _-_, _≤_}
+use Prim.Native.Nat.{ℕ, suc, _+_, _-_, _≤_}
 use mathlib.Core.Path.{_≡_}
 use mathlib.Core.Bool.{Bool, false, cond, not, _||_}
 use mathlib.Core.List.{List, [], _∷_}
@@ -21,6 +21,10 @@ isKind Line b = not (eqb b 10)
 unfoldable pub spanLen : Kind → List ℕ → ℕ
 spanLen k [] = 0
 spanLen k (b ∷ bs) = cond (isKind k b) (suc (spanLen k bs)) 0
+
+-- where the whitespace of l from the place `at` on ends
+abbrev pub startAt : List ℕ → ℕ → ℕ
+startAt l at = at + spanLen Space (drop at l)
 
 -- the byte b stands in the text
 unfoldable pub has : ℕ → List ℕ → Bool

@@ -5,7 +5,7 @@ ghost use Prim.Native.Nat.{ℕ, _+_, _-_, _≤_, _<_};
 ghost use lib.ListN.{length, take, drop};
 ghost use Rattle.fields.specs.Lines.{isSpace, lineLen, endTrimmed, trimmed, lineKind, kindBy, cutOf};
 ghost use Rattle.fields.specs.Fields.{part, fieldsAt, lettersOr, Next, Past};
-ghost use Rattle.fields.specs.Scan.{isKind, spanLen, has, Skips};
+ghost use Rattle.fields.specs.Scan.{isKind, spanLen, startAt, has, Skips};
 use decimals::Class;
 
 // ---- lines
@@ -185,11 +185,18 @@ pub fn letters_of(l: &[u8], s: Span) -> &[u8]
     letters::cut(l, s.at, s.end - s.at)
 }
 
+// Where the whitespace from `at` on ends: the next field starts there, if there is one.
+pub fn field_start(l: &[u8], at: usize) -> usize
+    ensures { λ r. ⌜ r ≡ startAt (now (l .entry)) at ⌝ }
+{
+    reach(l, at, Kind::Space)
+}
+
 // The next field from `at` on.
 pub fn next_field(l: &[u8], at: usize) -> Field
     ensures { λ r. ⌜ Next (now (l .entry)) at r ⌝ }
 {
-    let start = reach(l, at, Kind::Space);
+    let start = field_start(l, at);
     if start < l.len() {
         let end = reach(l, start, Kind::Word);
         return Field::Taken(Span { at: start, end });

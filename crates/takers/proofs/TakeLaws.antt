@@ -1,21 +1,33 @@
 -- What was taken, from what the code was told. Assumes nothing.
-use Prim.Native.Nat.{ℕ}
-use mathlib.Core.Path.{_≡_, refl, sym, ap, _∙_}
+use Prim.Native.Nat.{ℕ, _+_, _-_, _<_, _≤_}
+use native.Mathlib.Omega.{arith}
+use mathlib.Core.Path.{_≡_, refl, sym, ap, _∙_, subst}
 use mathlib.Core.List.{List, [], _∷_}
 use lib.Ieee.{Float}
+use lib.ListN.{length, take, drop}
 use types.Run.{OneOf, miss}
 use denote.Enum.Declared.{tagOf}
 use Rattle.decimals.specs.declared.Number as N
 use Rattle.decimals.specs.declared.Number.the-variants.{Value, Malformed, Beyond}
+use Rattle.decimals.specs.declared.Plain.{Plain}
+use Rattle.decimals.specs.declared.Plain.the-variants.{Is}
+use Rattle.decimals.specs.Numbers.{numberOf}
+use Rattle.decimals.specs.Begun.{Begins}
 use Rattle.decimals.proofs.Number.{the-type}
-use Rattle.fields.specs.Fields.{Name, fieldsAt, rest, Next}
+use Rattle.decimals.proofs.Reading.{tail-of}
+use Rattle.fields.specs.Scan.{startAt}
+use Rattle.fields.specs.declared.Span.{Span}
+use Rattle.fields.specs.Fields.{Name, part, nameIn, fieldsAt, rest, Next}
+use Rattle.fields.proofs.FieldLaws.{skipped, next-nothing, next-word}
 use Rattle.fields.specs.declared.Field.{Field}
 use Rattle.fields.specs.declared.Field.the-variants.{Taken, Nothing}
 use Rattle.scope.specs.declared.Reason.the-variants as reason
-use Rattle.scope.specs.Values.{Took, took, refused, asNumber, asSwallowed, optionalFrom}
+use Rattle.scope.specs.Values.{Took, took, refused, asNumber, asSwallowed, numberFrom, swallowedFrom, optionalFrom}
 use Rattle.takers.specs.declared.TookNumber.{TookNumber}
 use Rattle.takers.specs.declared.TookNumber.the-variants.{NoNumber}
-use Rattle.takers.specs.Taking.{tookNumber, numberTook, swallowTook, optIn, MayFit}
+use Rattle.takers.specs.declared.NextNumber.{NextNumber}
+use Rattle.takers.specs.declared.NextNumber.the-variants as next
+use Rattle.takers.specs.Taking.{tookNumber, numberTook, swallowTook, Numbered, optIn, MayFit}
 
 pub took-as : (l : List ℕ) (n : N.Number) (next : ℕ) → tookNumber l (numberTook n next) ≡ asNumber n (fieldsAt l next)
 took-as l (Value x) next = refl
@@ -32,6 +44,50 @@ pub beyond : (d : Float) (n : N.Number) (next : ℕ) → OneOf (1 ∷ 2 ∷ []) 
 beyond d (Value x) next h k = absurd (miss (1 ∷ 2 ∷ []) 0 tt h)
 beyond d Malformed next h k = absurd (miss (0 ∷ 2 ∷ []) 1 tt k)
 beyond d Beyond next h k = refl
+
+-- ---- the number of the next field
+pub numbered-read : (l : List ℕ) (at : ℕ) (f : Field) → Next l at f → (s : Span) → f ≡ Taken s → (w : List ℕ) → w ≡ part (s .at) (s .end) l → (n : N.Number) → n ≡ numberOf w
+    → Numbered l at (next.Is n (s .end))
+numbered-read l at f h s e w ew n en = (nameIn l s, h .taken s e .0, en ∙ ap numberOf ew)
+
+module _ (l : List ℕ) (at start : ℕ) (es : start ≡ startAt l at) where
+  -- whitespace before it is passed over
+  pub numbered-from : (r : NextNumber) → Numbered l start r → Numbered l at r
+  numbered-from (next.Is n end) (f, h, e) = (f, skipped l at start 0 es ∙ h, e)
+  numbered-from next.Missing h = skipped l at start 0 es ∙ h
+
+  pub numbered-none : length l ≤ start → Numbered l at next.Missing
+  numbered-none h = next-nothing l at start 0 es h .nothing refl
+
+  begun : (n : N.Number) (len : ℕ) (p : Plain) → Begins (take (length l - start) (drop start l)) p → p ≡ Is n len → Begins (drop start l) (Is n len)
+  begun n len p b e = subst (λ (d : List ℕ). Begins d (Is n len)) (tail-of l start) (subst (Begins (take (length l - start) (drop start l))) e b)
+
+  -- read while it was scanned
+  pub numbered-plain : start < length l → (n : N.Number) (len : ℕ) (p : Plain) → Begins (take (length l - start) (drop start l)) p → p ≡ Is n len → Numbered l at (next.Is n (start + len))
+  numbered-plain h n len p b e =
+      let (k, q) = begun n len p b e in
+      let z : start + len - start ≡ len = omega arith in
+      numbered-read l at _ (next-word l at start (start + len) es h len k refl) (record { at = start; end = start + len }) refl (take len (drop start l)) (rw z) n q
+
+  pub plain-fits : start < length l → (n : N.Number) (len : ℕ) (p : Plain) → Begins (take (length l - start) (drop start l)) p → p ≡ Is n len → start + len ≤ length l
+  plain-fits h n len p b e = next-word l at start (start + len) es h len (begun n len p b e .0) refl .taken _ refl .1 .inside
+
+module _ (l : List ℕ) (at : ℕ) (r : NextNumber) (h : Numbered l at r) where
+  module _ (n : N.Number) (end : ℕ) (e : r ≡ next.Is n end) where
+    is : Numbered l at (next.Is n end)
+    is = subst (Numbered l at) e h
+
+    pub took-next : tookNumber l (numberTook n end) ≡ numberFrom (fieldsAt l at)
+    took-next = let (f, k, q) = is in rw k (took-as l n end ∙ ap (λ (x : N.Number). asNumber x (fieldsAt l end)) q)
+
+    pub swallowed-next : (d : Float) → tookNumber l (swallowTook d n end) ≡ swallowedFrom d (fieldsAt l at)
+    swallowed-next d = let (f, k, q) = is in rw k (swallowed-as l d n end ∙ ap (λ (x : N.Number). asSwallowed d x (fieldsAt l end)) q)
+
+  pub took-none : r ≡ next.Missing → refused reason.Missing ≡ numberFrom (fieldsAt l at)
+  took-none e = sym (ap numberFrom (subst (Numbered l at) e h))
+
+  pub swallowed-none : r ≡ next.Missing → (d : Float) → took d (fieldsAt l at) ≡ swallowedFrom d (fieldsAt l at)
+  swallowed-none e d = let k : fieldsAt l at ≡ [] = subst (Numbered l at) e h in rw k
 
 -- a field that may be there
 module _ {l : List ℕ} {at : ℕ} where

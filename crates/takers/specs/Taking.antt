@@ -1,17 +1,21 @@
 -- The code's answers as those of scope's Values: what was taken, and the fields that are left. Assumes nothing.
 use Prim.Native.Nat.{ℕ}
+use mathlib.Core.Path.{_≡_}
 use mathlib.Core.Bool.{Bool}
-use mathlib.Core.List.{List}
+use mathlib.Core.List.{List, [], _∷_}
 use lib.Ieee.{Float}
 use Rattle.decimals.specs.declared.Number as N
 use Rattle.decimals.specs.declared.Number.the-variants as number
-use Rattle.fields.specs.Fields.{fieldsAt}
+use Rattle.decimals.specs.Numbers.{numberOf}
+use Rattle.fields.specs.Fields.{Name, fieldsAt}
 pub use Rattle.fields.specs.Fields.{optIn, MayFit}
 use Rattle.scope.specs.declared.Reason.{Reason}
 use Rattle.scope.specs.declared.Reason.the-variants.{Missing, Malformed, Beyond}
 use Rattle.scope.specs.Values.{Took, took, refused}
 use Rattle.takers.specs.declared.TookNumber.{TookNumber}
 use Rattle.takers.specs.declared.TookNumber.the-variants.{Number, NoNumber}
+use Rattle.takers.specs.declared.NextNumber.{NextNumber}
+use Rattle.takers.specs.declared.NextNumber.the-variants as next
 use Rattle.takers.specs.declared.TookFlag.{TookFlag}
 use Rattle.takers.specs.declared.TookFlag.the-variants.{Flag, NoFlag}
 
@@ -22,6 +26,11 @@ tookNumber l (NoNumber why) = refused why
 abbrev pub tookFlag : List ℕ → TookFlag → Took Bool
 tookFlag l (Flag b next) = took b (fieldsAt l next)
 tookFlag l (NoFlag why) = refused why
+
+-- the next field of l from the place `at` on is that number, and the others stand from its end on; or there is none
+abbrev pub Numbered : List ℕ → ℕ → NextNumber → Type 0
+Numbered l at (next.Is n end) = (f : Name) × (fieldsAt l at ≡ f ∷ fieldsAt l end) × (n ≡ numberOf (f .letters))
+Numbered l at next.Missing = fieldsAt l at ≡ []
 
 -- from a number that was read, with the place where its field ends
 abbrev pub numberTook : N.Number → ℕ → TookNumber

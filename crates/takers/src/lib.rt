@@ -3,8 +3,9 @@
 ghost use mathlib.Core.Path.{_≡_};
 ghost use Rattle.fields.specs.Fields.{fieldsAt};
 ghost use Rattle.scope.specs.Values.{numberFrom, numberOr, swallowedFrom, flagFrom};
-ghost use Rattle.takers.specs.Taking.{tookNumber, tookFlag, numberTook, swallowTook, reasonIn};
+ghost use Rattle.takers.specs.Taking.{tookNumber, tookFlag, numberTook, swallowTook, reasonIn, Numbered};
 use decimals::Number;
+use decimals::Plain;
 use fields::Field;
 use scope::Reason;
 
@@ -29,15 +30,47 @@ pub fn as_number(n: Number, next: usize) -> TookNumber
     }
 }
 
+// What number the next field is, and where it ends.
+enum NextNumber {
+    Is(Number, usize),
+    Missing,
+}
+
+fn read_next(l: &[u8], at: usize) -> NextNumber
+    ensures { λ r. ⌜ Numbered (now (l .entry)) at r ⌝ }
+{
+    let f = fields::next_field(l, at);
+    let Field::Taken(s) = f else {
+        return NextNumber::Missing;
+    };
+    NextNumber::Is(decimals::read_number(fields::letters_of(l, s)), s.end)
+}
+
+// Most numbers are plain, and read while they are scanned.
+fn next_number(l: &[u8], at: usize) -> NextNumber
+    ensures { λ r. ⌜ Numbered (now (l .entry)) at r ⌝ }
+{
+    let start = fields::field_start(l, at);
+    if start < l.len() {
+        let p = decimals::plain_number(&l[start..]);
+        let Plain::Is(n, len) = p else {
+            return read_next(l, start);
+        };
+        let end = start + len;
+        return NextNumber::Is(n, end);
+    }
+    NextNumber::Missing
+}
+
 // A number that must be there.
 pub fn take_number(l: &[u8], at: usize) -> TookNumber
     ensures { λ r. ⌜ tookNumber (now (l .entry)) r ≡ numberFrom (fieldsAt (now (l .entry)) at) ⌝ }
 {
-    let f = fields::next_field(l, at);
-    let Field::Taken(s) = f else {
+    let f = next_number(l, at);
+    let NextNumber::Is(n, end) = f else {
         return TookNumber::NoNumber(Reason::Missing);
     };
-    as_number(decimals::read_number(fields::letters_of(l, s)), s.end)
+    as_number(n, end)
 }
 
 // A number that is read from the other text where it is missing.
@@ -66,15 +99,11 @@ pub fn swallow(n: Number, other: f64, next: usize) -> TookNumber
 pub fn take_swallowed(l: &[u8], at: usize, other: f64) -> TookNumber
     ensures { λ r. ⌜ tookNumber (now (l .entry)) r ≡ swallowedFrom other (fieldsAt (now (l .entry)) at) ⌝ }
 {
-    let f = fields::next_field(l, at);
-    let Field::Taken(s) = f else {
+    let f = next_number(l, at);
+    let NextNumber::Is(n, end) = f else {
         return TookNumber::Number(other, at);
     };
-    swallow(
-        decimals::read_number(fields::letters_of(l, s)),
-        other,
-        s.end,
-    )
+    swallow(n, other, end)
 }
 
 // Exactly true or false, false where it is missing.

@@ -3,8 +3,7 @@ use borrow.Author.Needs.{needs}
 use mathlib.Core.Path.{sym}
 use mathlib.Core.List.{[], _∷_}
 use Rattle.decimals.specs.declared.Class.the-variants.{Space}
-use Rattle.decimals.proofs.Classes.{is-class, not-class}
-use Rattle.fields.proofs.LineLaws.{above-space}
+use Rattle.decimals.proofs.Classes.{is-class, not-class, above-space}
 use Rattle.fields.proofs.is_space.Statement.{statement}
 use Rattle.fields.proofs.is_space.Tie as tie
 

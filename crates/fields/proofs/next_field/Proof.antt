@@ -5,21 +5,21 @@ use Rattle.fields.proofs.FieldLaws.{next-taken, next-nothing}
 use Rattle.fields.proofs.next_field.Statement.{statement}
 use Rattle.fields.proofs.next_field.Tie as tie
 
+field-start-requires : tie.Need-field-start-requires
+field-start-requires c κs = search needs
+
 reach-requires : tie.Need-reach-requires
 reach-requires c κs = search needs
-
-reach-requires-2 : tie.Need-reach-requires-2
-reach-requires-2 c κs = search needs
 
 returns : tie.Need-returns
 returns c =
     let a = c .before .before .before .before .args in
-    next-taken (now (a .l)) (a .at) (c .before .before .reach .result) (c .reach2 .result) (c .before .before .reach .ensures) (c .before .if1 .taken) (c .reach2 .ensures)
+    next-taken (now (a .l)) (a .at) (c .before .before .field-start .result) (c .reach .result) (c .before .before .field-start .ensures) (c .before .if1 .taken) (c .reach .ensures)
 
 returns-2 : tie.Need-returns-2
 returns-2 c =
     let a = c .before .before .before .args in
-    next-nothing (now (a .l)) (a .at) (c .before .reach .result) 0 (c .before .reach .ensures) (c .if1 .left)
+    next-nothing (now (a .l)) (a .at) (c .before .field-start .result) 0 (c .before .field-start .ensures) (c .if1 .left)
 
 pub next-field-spec : {M : Type 1} → statement M
-next-field-spec = tie.close (tie.spec reach-requires reach-requires-2 returns returns-2)
+next-field-spec = tie.close (tie.spec field-start-requires reach-requires returns returns-2)
