@@ -18,7 +18,7 @@ extern "C" {
 
 /* Rooms: how long each table must be, in places (not bytes), and how long a text may be. */
 #define INP_TEXT_ROOM 65536
-#define INP_WORDS_ROOM 15907
+#define INP_WORDS_ROOM 17137
 #define INP_NUMBERS_ROOM 8192
 #define INP_CLASSES_ROOM 65536
 #define INP_REASONS_ROOM 65536
@@ -134,7 +134,7 @@ uint64_t inp_read_survey(
 #define INP_CLAUSES_WIDTH 7
 #define INP_CLAUSES_MOST 512
 /* From 14412 on stand slots that only the library needs. */
-#define INP_COUNTS_AT 15898
+#define INP_COUNTS_AT 17128
 
 /* Regions of numbers, for the same records. */
 #define INP_NODE_NUMBERS_AT 0

@@ -3,7 +3,7 @@
 /// The longest text that is read.
 pub const TEXT: usize = 65_536;
 /// Room of the table of whole numbers.
-pub const WORDS: usize = 15_907;
+pub const WORDS: usize = 17_137;
 /// Room of the table of doubles.
 pub const NUMBERS: usize = 8_192;
 /// Room of `classes` and of `reasons`: no text has more lines than bytes.
@@ -46,7 +46,7 @@ pub mod words {
     pub const CLAUSES: Region = Region::new(10_828, 512, 7);
     // From 14,412 on stand slots, by which only the library looks names up.
     /// How many records there are of each kind, the times apart, in the order above.
-    pub const COUNTS: Region = Region::new(15_898, 1, 9);
+    pub const COUNTS: Region = Region::new(17_128, 1, 9);
 }
 
 /// The regions of the table of doubles.

@@ -2,8 +2,8 @@
 
 use crate::network::*;
 
-pub const WORDS: usize = 15_907;
-/// How many slots the nodes have, and the links.
+pub const WORDS: usize = 17_137;
+/// How many slots the nodes have, and the links, the curves, the patterns.
 const NAME_SLOTS: usize = 615;
 /// How many slots the demands have.
 const DEMAND_SLOTS: usize = 256;
@@ -38,6 +38,8 @@ pub fn words(text: &[u8], n: &Network) -> Vec<u64> {
         region(CLAUSES * 7, n.clauses.iter().map(|clause| clause_words(clause, name))),
         slots(NAME_SLOTS, n.nodes.iter().map(|node| key(node.id))),
         slots(NAME_SLOTS, n.links.iter().map(|link| key(link.id))),
+        slots(NAME_SLOTS, n.curves.iter().map(|curve| key(curve))),
+        slots(NAME_SLOTS, n.patterns.iter().map(|pattern| key(pattern))),
         slots(DEMAND_SLOTS, n.demands.iter().map(|demand| demand.junction as u64)),
         counts.map(|count| count as u64).to_vec(),
     ];

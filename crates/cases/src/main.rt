@@ -8,7 +8,7 @@ use printing::records;
 use printing::word;
 use printing::write;
 
-const ROOM_WORDS: usize = 15907;
+const ROOM_WORDS: usize = 17137;
 
 const ROOM_NUMBERS: usize = 8192;
 

@@ -8,7 +8,7 @@ use printing::one_if;
 use printing::write;
 use scope::Survey;
 
-const ROOM_WORDS: usize = 15907;
+const ROOM_WORDS: usize = 17137;
 
 const ROOM_NUMBERS: usize = 8192;
 

@@ -1,5 +1,5 @@
 -- What storing a node makes of the network. Assumes nothing.
-use Prim.Native.Nat.{ℕ, _+_, _*_, _≤_, _<_}
+use Prim.Native.Nat.{ℕ, _+_, _*_, _%_, _≤_, _<_}
 use native.Mathlib.Omega.{arith}
 use borrow.Author.Tests.{lt-ltb, le-ltb}
 use mathlib.Core.Path.{_≡_, refl, sym, ap, _∙_}
@@ -100,6 +100,7 @@ module _ {text : List ℕ} {m : Network} {s : Counts} {w : List ℕ} {f : List F
         let f0 : List Float = splice f (nodeNumbersAt + s .nodes * nodeNumbersSize) (nodeNumbers (junctionNode jf)) in
         let h1 = add-node h {w′ = w0} {f′ = f0} (junctionNode jf) (count-nodes h) n (sits-span text (j .id) fit, tt) refl refl in
         let ws = ew ∙ ap (λ (i : ℕ). demandAdded w0 (s .demands) (junctionDemand i jf)) (count-nodes h) in
-        let h2 = add-demand h1 (junctionDemand (length (m .nodes)) jf) (count-demands h) d (sits-field text (j .pattern) may) ws ef in
+        let h2 = add-demand h1 (junctionDemand (length (m .nodes)) jf) (count-demands h) d (sits-field text (j .pattern) may) (omega (arith, length-append (m .nodes) (junctionNode jf ∷ [])))
+        (λ own. h .words .known .owned .beyond (length (m .nodes) % 256) (omega (arith, n, count-nodes h))) ws ef in
         rw (free, lt-ltb (length (m .nodes)) 256 (omega (arith, n, count-nodes h)), lt-ltb (length (m .demands)) 512 (omega (arith, d, count-demands h)))
         (rw (h .counts, length-append, length-append), h2)

@@ -20,7 +20,7 @@ use steps::State;
 // The room of the text, and of the words with the counts after the records.
 pub const ROOM_TEXT: usize = 65536;
 
-const ROOM_WORDS: usize = 15907;
+const ROOM_WORDS: usize = 17137;
 
 // What a reading gives beside the tables: the answer, and how many records they hold.
 pub struct Strict {

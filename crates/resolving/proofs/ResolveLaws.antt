@@ -77,7 +77,7 @@ module _ {text : List ℕ} {m : Network} {s : Counts} {w : List ℕ} {f : List F
         let d : Demand = getD (m .demands) k noDemand in
         let x : Demand = resolvedDemand (m .patterns) d in
         let q : demandWords x ≡ splice (demandWords d) 4 (v ∷ []) = rw e (demand-index d (m .patterns)) in
-        let h1 = change-demand-words h k noDemand x 4 (v ∷ []) below-demands demand-sits refl (omega arith) q refl (set-splice w (demandsAt + k * demandSize + 4) v room) in
+        let h1 = change-demand-words h k noDemand x 4 (v ∷ []) below-demands demand-sits refl (λ own. own) (omega arith) q refl (set-splice w (demandsAt + k * demandSize + 4) v room) in
         subst (λ (c : Counts). Holds text (demandResolved k m) c (set w (demandsAt + k * demandSize + 4) v) f) (same-count-demands m k x ∙ sym (h .counts)) h1
 
 -- ---- a node

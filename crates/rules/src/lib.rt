@@ -432,7 +432,7 @@ fn put_clause(
     words: &mut [u64],
     numbers: &mut [f64],
 )
-    requires { ⌜ (n < 512) × (length (now words) ≡ 15898) × (length (now numbers) ≡ 8192) ⌝ }
+    requires { ⌜ (n < 512) × (length (now words) ≡ 17128) × (length (now numbers) ≡ 8192) ⌝ }
     ensures { λ _. ⌜ (now (words .exit) ≡ splice (now (words .entry)) (clausesAt + n * clauseSize) (kind ∷ one ∷ two ∷ three ∷ valueNo value ∷ nameWords (optIn (now (text .entry)) name)))
         × (now (numbers .exit) ≡ splice (now (numbers .entry)) (clauseNumbersAt + n) (valueNumber value ∷ [])) ⌝ }
 {
@@ -448,7 +448,7 @@ fn put_clause(
 }
 
 fn put_condition(text: &[u8], c: Condition, n: usize, words: &mut [u64], numbers: &mut [f64])
-    requires { ⌜ (n < 512) × (length (now words) ≡ 15898) × (length (now numbers) ≡ 8192) ⌝ }
+    requires { ⌜ (n < 512) × (length (now words) ≡ 17128) × (length (now numbers) ≡ 8192) ⌝ }
     ensures { λ _. ⌜ PutClause n (clause.condition (conditionIn (now (text .entry)) c)) (now (words .entry)) (now (numbers .entry)) (now (words .exit)) (now (numbers .exit)) ⌝ }
 {
     let operator = c.operator;
@@ -463,7 +463,7 @@ fn put_condition(text: &[u8], c: Condition, n: usize, words: &mut [u64], numbers
 }
 
 fn put_action(text: &[u8], a: Action, n: usize, words: &mut [u64], numbers: &mut [f64])
-    requires { ⌜ (n < 512) × (length (now words) ≡ 15898) × (length (now numbers) ≡ 8192) ⌝ }
+    requires { ⌜ (n < 512) × (length (now words) ≡ 17128) × (length (now numbers) ≡ 8192) ⌝ }
     ensures { λ _. ⌜ PutClause n (clause.action (actionIn (now (text .entry)) a)) (now (words .entry)) (now (numbers .entry)) (now (words .exit)) (now (numbers .exit)) ⌝ }
 {
     let value = a.value;
@@ -486,7 +486,7 @@ fn put_action(text: &[u8], a: Action, n: usize, words: &mut [u64], numbers: &mut
 
 // The clause of a line, where it has one, at the place `n`.
 fn put_line(text: &[u8], read: LineRead, n: usize, words: &mut [u64], numbers: &mut [f64])
-    requires { ⌜ Room n read × (length (now words) ≡ 15898) × (length (now numbers) ≡ 8192) ⌝ }
+    requires { ⌜ Room n read × (length (now words) ≡ 17128) × (length (now numbers) ≡ 8192) ⌝ }
     ensures { λ _. ⌜ Put (now (text .entry)) n read (now (words .entry)) (now (numbers .entry)) (now (words .exit)) (now (numbers .exit)) ⌝ }
 {
     match read {
@@ -556,7 +556,7 @@ fn rank_words(ranked: bool, priority: u64) -> [u64; 2]
 
 // The rule of a group, its clauses being there.
 fn put_rule(text: &[u8], id: Span, q: Sketch, s: Counts, words: &mut [u64])
-    requires { ⌜ (s .rules < 64) × (length (now words) ≡ 15898) ⌝ }
+    requires { ⌜ (s .rules < 64) × (length (now words) ≡ 17128) ⌝ }
     ensures { λ _. ⌜ now (words .exit) ≡ splice (now (words .entry)) (rulesAt + s .rules * ruleSize) (ruleWords (ruleIn (now (text .entry)) id q (s .clauses))) ⌝ }
 {
     let k = tables::id_words(text, id);

@@ -217,15 +217,18 @@ slotsFrom slot i (r ∷ rs) ss = slotsFrom slot (suc i) rs (marked ss (slot r) (
 abbrev pub slots : {R : Type 0} → (R → ℕ) → ℕ → List R → List ℕ
 slots slot n rs = slotsFrom slot 0 rs (replicate n 0)
 
--- a node's and a link's slot is by the key of its name, a demand's by its junction
+-- the slot of a node, a link, a curve or a pattern is by the key of its name, a demand's by its junction; rules have none
 abbrev pub slotOf : ℕ → ℕ
 slotOf key = key % 615
 
+abbrev pub idSlot : Name → ℕ
+idSlot n = slotOf (keyOf (n .letters))
+
 abbrev pub nodeSlot : Node → ℕ
-nodeSlot n = slotOf (keyOf (n .id .letters))
+nodeSlot n = idSlot (n .id)
 
 abbrev pub linkSlot : Link → ℕ
-linkSlot l = slotOf (keyOf (l .id .letters))
+linkSlot l = idSlot (l .id)
 
 abbrev pub demandSlot : Demand → ℕ
 demandSlot d = d .node % 256
@@ -245,6 +248,8 @@ wordBlocks m =
     ∷ region clauseWords 0 3584 (m .clauses)
     ∷ slots nodeSlot 615 (m .nodes)
     ∷ slots linkSlot 615 (m .links)
+    ∷ slots idSlot 615 (m .curves)
+    ∷ slots idSlot 615 (m .patterns)
     ∷ slots demandSlot 256 (m .demands)
     ∷ []
 
@@ -260,10 +265,10 @@ numberBlocks m =
 
 -- how long the regions are together, and each table
 abbrev pub recordWords : ℕ
-recordWords = 15898
+recordWords = 17128
 
 abbrev pub roomWords : ℕ
-roomWords = 15907
+roomWords = 17137
 
 abbrev pub roomNumbers : ℕ
 roomNumbers = 8192

@@ -15,12 +15,12 @@ use Rattle.fields.specs.declared.Span.{Span}
 use Rattle.scope.specs.Records.{Network, Point, zeroF, lookup}
 use Rattle.scope.specs.Sections.{roomCurves, roomPoints}
 use Rattle.scope.specs.Series.{orElse, lastX, falls, addPoint}
-use Rattle.scope.specs.Tables.{idWords}
 use Rattle.scope.specs.declared.Counts.{Counts}
 use Rattle.scope.specs.declared.Found.the-variants.{At, Nowhere}
 use Rattle.scope.specs.declared.Reason.the-variants.{Falling, Full}
 use Rattle.tables.specs.Table.{splice}
-use Rattle.tables.specs.Layout.{curvesAt, pointsAt, idSize, pointNumbersAt, pointNumbersSize}
+use Rattle.tables.specs.Layout.{pointsAt, pointNumbersAt, pointNumbersSize}
+use Rattle.tables.specs.Adding.{curveAdded}
 use Rattle.tables.specs.Holding.{Words, Numbers, Holds, After}
 use Rattle.tables.specs.declared.Kept.{Kept}
 use Rattle.tables.specs.declared.Kept.the-variants.{Stored, Refused}
@@ -103,7 +103,7 @@ module _ {text : List ℕ} {m : Network} {s : Counts} {w : List ℕ} {f : List F
   no-room e k = rw (e, le-ltb (length (m .points)) roomPoints (omega (arith, k, count-points h)), and-false (ltb (length (m .curves)) roomCurves)) (refl, refl, refl)
 
   pub starts : (w1 w2 : List ℕ) (f1 : List Float) → lookup (m .curves) letters ≡ Nowhere → Fits text id → s .curves < roomCurves → s .points < roomPoints
-      → w1 ≡ splice w (curvesAt + s .curves * idSize) (idWords (nameIn text id)) → w2 ≡ splice w1 (pointsAt + s .points) (s .curves ∷ []) → f1 ≡ splice f (pointNumbersAt + s .points * pointNumbersSize) (x ∷ y ∷ [])
+      → w1 ≡ curveAdded w (s .curves) (nameIn text id) → w2 ≡ splice w1 (pointsAt + s .points) (s .curves ∷ []) → f1 ≡ splice f (pointNumbersAt + s .points * pointNumbersSize) (x ∷ y ∷ [])
       → Answers
       (Stored (record { nodes = s .nodes; links = s .links; curves = s .curves + 1; points = s .points + 1; patterns = s .patterns; multipliers = s .multipliers; demands = s .demands; rules = s .rules; clauses = s .clauses }))
       w2 f1

@@ -1,11 +1,10 @@
 -- A junction's own demand, looked for; and what storing a demand makes of the network. Assumes nothing.
 use Prim.Native.Nat.{ℕ, zero, suc, _+_, _-_, _*_, _%_, _≤_, _<_}
 use native.Mathlib.Omega.{arith}
-use native.Mathlib.Nat.{add-zero}
 use native.Mathlib.Numerals.{add-one}
 use borrow.Author.Tests.{lt-ltb, le-ltb, eq-eqb, ne-eqb, eqb-true}
 use mathlib.Core.Path.{_≡_, refl, sym, ap, _∙_}
-use mathlib.Core.Bool.{Bool, true, false, cond, _&&_}
+use mathlib.Core.Bool.{Bool, true, false, cond, _&&_, false≢true}
 use mathlib.Core.List.{List, [], _∷_, _++_}
 use mathlib.Core.Option.{Option, none, some}
 use lib.ListN.{length, drop, getD, length-append, drop-of-length-le}
@@ -19,7 +18,7 @@ use Rattle.fields.specs.declared.Field.the-variants.{Taken, Nothing}
 use Rattle.scope.specs.Records.{Network, NodeKind, junction, reservoir, tank, Demand, noNode, lookup, nodeIds}
 use Rattle.scope.specs.Sections.{roomDemands}
 use Rattle.scope.specs.Series.{demandAt, ownFrom, addDemand, setDemand}
-use Rattle.scope.specs.Tables.{flag, nameWords, demandWords, recordWords}
+use Rattle.scope.specs.Tables.{flag, nameWords, demandWords, slots, demandSlot}
 use Rattle.scope.specs.declared.Counts.{Counts}
 use Rattle.scope.specs.declared.Found.the-variants.{At, Nowhere}
 use Rattle.scope.specs.declared.Reason.the-variants.{NotFound, WrongKind, Full}
@@ -27,14 +26,13 @@ use Rattle.takers.specs.Taking.{optIn, MayFit}
 use Rattle.tables.specs.Table.{splice}
 use Rattle.tables.specs.Layout.{demandsAt, demandSize, demandSlotsAt, demandNumbersAt}
 use Rattle.tables.specs.Adding.{demandAdded}
-use Rattle.tables.specs.Holding.{SitsOr, Words, Holds, After, InTable, OtherWords, NotInSlot, noDemand, isJunction}
+use Rattle.tables.specs.Holding.{SitsOr, Words, Holds, After, FirstInSlot, noDemand, isJunction}
 use Rattle.tables.specs.declared.Kept.{Kept}
 use Rattle.tables.specs.declared.Kept.the-variants.{Stored, Refused}
-use Rattle.tables.proofs.HoldLaws.{sits-field, add-demand, change-demand, same-count-demands, count-demands}
+use Rattle.tables.proofs.HoldLaws.{sits-field, add-demand, change-demand, same-count-demands, count-nodes, count-demands}
 use Rattle.tables.proofs.LookLaws.{found-below}
 use Rattle.tables.proofs.ReadLaws.{demand-word, node-count}
-use Rattle.tables.proofs.WalkLaws.{Passed}
-use Rattle.tables.proofs.StartLaws.{demands-before}
+use Rattle.tables.proofs.StartLaws.{demand-slot}
 use Rattle.series.specs.Storing.{isOwn}
 
 -- ---- one demand
@@ -70,56 +68,48 @@ module _ (ds : List Demand) (k node : ℕ) where
   unfolding ownFrom
   own-end h = rw (drop-of-length-le ds {i = k} h)
 
--- ---- the walk to the next demand of a node
--- the demands' nodes are in the table
-pub demands-inside : (w : List ℕ) (demands : ℕ) → demands ≤ 512 → length w ≡ recordWords → InTable w demandsAt demandSize demands
-demands-inside w demands h e j b = omega (arith, e)
+-- ---- the one demand that may be the node's own
+and-true : (a b : Bool) → (a && b) ≡ true → (a ≡ true) × (b ≡ true)
+and-true true true e = (refl, refl)
+and-true true false e = absurd (false≢true e)
+and-true false b e = absurd (false≢true e)
 
--- demands of other nodes are none of the node's own
-own-past : {text : List ℕ} {m : Network} {w : List ℕ} → Words text m w → (node a n : ℕ) → a + n ≤ length (m .demands) → OtherWords w demandsAt demandSize node a (a + n)
-    → ownFrom a node (drop a (m .demands)) ≡ ownFrom (a + n) node (drop (a + n) (m .demands))
-own-past hw node a zero h o = rw add-zero
-own-past {text} {m} hw node a (suc n) h o =
-    let hn : a + n < length (m .demands) = omega arith in
-    let q : a + n + 1 ≡ a + suc n = omega arith in
-    own-past hw node a n (omega arith) (λ j p b. o j p (omega arith))
-    ∙ own-on (m .demands) (a + n) node hn (sym (other-node hw (a + n) node hn (o (a + n) (omega arith) (omega arith))))
-    ∙ ap (λ (x : ℕ). ownFrom x node (drop x (m .demands))) q
+module _ {text : List ℕ} {m : Network} {w : List ℕ} (hw : Words text m w) (node k : ℕ) (at : FirstInSlot (getD w (demandSlotsAt + node % 256) 0) (length (m .demands)) k) where
+  -- an own demand is the first in its slot, which is number k
+  only-first : (j : ℕ) → j < length (m .demands) → isOwn (getD (m .demands) j noDemand) node ≡ true → j ≡ k
+  only-first j hj e =
+      let d : Demand = getD (m .demands) j noDemand in
+      let both = and-true (eqb (d .node) node) (d .own) e in
+      let f = hw .known .owned .first j hj (both .1) in
+      let q : getD w (demandSlotsAt + node % 256) 0 ≡ suc j = demand-slot hw (node % 256) (omega arith) ∙ ap (λ (i : ℕ). getD (slots demandSlot 256 (m .demands)) (i % 256) 0) (sym (eqb-true (d .node) node (both .0))) ∙ f in
+      omega (arith, q, at (omega (arith, q)) (omega (arith, q)))
 
-pub record Searched (w : List ℕ) (demands node k : ℕ) : Type 0 where
-  pub upto : k ≤ demands
-  pub left : (text : List ℕ) (m : Network) → Words text m w → demands ≡ length (m .demands) → ownFrom 0 node (m .demands) ≡ ownFrom k node (drop k (m .demands))
+  not-others : (j : ℕ) → j < length (m .demands) → (j ≡ k → ⊥) → isOwn (getD (m .demands) j noDemand) node ≡ false
+  not-others j hj n = go (isOwn (getD (m .demands) j noDemand) node) refl
+    where
+      go : (t : Bool) → isOwn (getD (m .demands) j noDemand) node ≡ t → t ≡ false
+      go true e = absurd (n (only-first j hj e))
+      go false e = refl
 
-module _ (w : List ℕ) (demands node : ℕ) where
-  pub start-search : (b : ℕ) → b ≤ demands → NotInSlot (getD w (demandSlotsAt + node % 256) 0) b → Searched w demands node b
-  start-search b h o = record {
-    upto = h;
-    left = λ text m hw e.
-        let z : 0 + b ≡ b = omega arith in
-        rw z at (own-past hw node 0 b (omega (arith, e)) (rw z (demands-before hw node b (omega (arith, e)) o)));
-  }
+  past : (b : ℕ) → b ≤ length (m .demands) → ((j : ℕ) → j < b → isOwn (getD (m .demands) j noDemand) node ≡ false) → ownFrom 0 node (m .demands) ≡ ownFrom b node (drop b (m .demands))
+  past zero h f = refl
+  past (suc b) h f = past b (omega arith) (λ j l. f j (omega arith)) ∙ rw add-one at (own-on (m .demands) b node (omega arith) (f b (omega arith)))
 
-  module _ {k : ℕ} (g : Searched w demands node k) where
-    pub past-search : (r : ℕ) → Passed w demandsAt demandSize node k demands r → Searched w demands node r
-    past-search r p = record {
-      upto = p .1;
-      left = λ text m hw e.
-          let q : k + (r - k) ≡ r = omega (arith, p .0) in
-          g .left text m hw e ∙ rw q at (own-past hw node k (r - k) (omega (arith, p .1)) (rw q (p .2)));
-    }
+  pub own-found : k < length (m .demands) → true ≡ isOwn (getD (m .demands) k noDemand) node → At k ≡ ownFrom 0 node (m .demands)
+  own-found h e = sym (past k (omega arith) (λ j l. not-others j (omega arith) (λ q. omega arith)) ∙ own-here (m .demands) k node h (sym e))
 
-    pub next-search : k < demands → ((text : List ℕ) (m : Network) → Words text m w → k < length (m .demands) → false ≡ isOwn (getD (m .demands) k noDemand) node) → Searched w demands node (k + 1)
-    next-search h n = record {
-      upto = omega arith;
-      left = λ text m hw e. let hk : k < length (m .demands) = omega arith in g .left text m hw e ∙ own-on (m .demands) k node hk (sym (n text m hw hk));
-    }
+  none-own : ((j : ℕ) → j < length (m .demands) → isOwn (getD (m .demands) j noDemand) node ≡ false) → Nowhere ≡ ownFrom 0 node (m .demands)
+  none-own f = sym (past (length (m .demands)) (omega arith) f ∙ own-end (m .demands) (length (m .demands)) node (omega arith))
 
-    pub found-search : k < demands → ((text : List ℕ) (m : Network) → Words text m w → k < length (m .demands) → true ≡ isOwn (getD (m .demands) k noDemand) node)
-        → (text : List ℕ) (m : Network) → Words text m w → demands ≡ length (m .demands) → At k ≡ ownFrom 0 node (m .demands)
-    found-search h n text m hw e = let hk : k < length (m .demands) = omega arith in sym (g .left text m hw e ∙ own-here (m .demands) k node hk (sym (n text m hw hk)))
+  pub first-not-own : false ≡ isOwn (getD (m .demands) k noDemand) node → Nowhere ≡ ownFrom 0 node (m .demands)
+  first-not-own e = none-own (λ j hj. go j hj (eqb j k) refl)
+    where
+      go : (j : ℕ) → j < length (m .demands) → (t : Bool) → eqb j k ≡ t → isOwn (getD (m .demands) j noDemand) node ≡ false
+      go j hj true q = ap (λ (i : ℕ). isOwn (getD (m .demands) i noDemand) node) (eqb-true j k q) ∙ sym e
+      go j hj false q = not-others j hj (λ s. false≢true (sym q ∙ eq-eqb j k s))
 
-    pub none-search : demands ≤ k → (text : List ℕ) (m : Network) → Words text m w → demands ≡ length (m .demands) → Nowhere ≡ ownFrom 0 node (m .demands)
-    none-search h text m hw e = sym (g .left text m hw e ∙ own-end (m .demands) k node (omega arith))
+  pub none-in-slot : length (m .demands) ≤ k → Nowhere ≡ ownFrom 0 node (m .demands)
+  none-in-slot h = none-own (λ j hj. not-others j hj (λ q. omega arith))
 
 -- what is found is one of the demands
 own-below : (j node : ℕ) (ds : List Demand) (k : ℕ) → ownFrom j node ds ≡ At k → k < j + length ds
@@ -135,10 +125,10 @@ pub own-in : (node : ℕ) (ds : List Demand) (k : ℕ) → ownFrom 0 node ds ≡
 own-in node ds k e = omega (arith, own-below 0 node ds k e)
 
 -- and it is the node's
-own-found : (j node : ℕ) (ds : List Demand) (k : ℕ) → ownFrom j node ds ≡ At k → (j ≤ k) × (getD ds (k - j) noDemand .node ≡ node)
+own-row : (j node : ℕ) (ds : List Demand) (k : ℕ) → ownFrom j node ds ≡ At k → (j ≤ k) × (getD ds (k - j) noDemand .node ≡ node)
 unfolding ownFrom
-own-found j node [] k e = let z : _≡_ {A = ℕ} 0 1 = cc in absurd (omega arith)
-own-found j node (d ∷ ds) k e = go (eqb (d .node) node) (d .own) refl e (own-found (suc j) node ds k)
+own-row j node [] k e = let z : _≡_ {A = ℕ} 0 1 = cc in absurd (omega arith)
+own-row j node (d ∷ ds) k e = go (eqb (d .node) node) (d .own) refl e (own-row (suc j) node ds k)
   where
     later : (suc j ≤ k) × (getD ds (k - suc j) noDemand .node ≡ node) → (j ≤ k) × (getD (d ∷ ds) (k - j) noDemand .node ≡ node)
     later f = let q : k - j ≡ suc (k - suc j) = omega (arith, f .0) in (omega (arith, f .0), rw q (f .1))
@@ -153,7 +143,7 @@ own-found j node (d ∷ ds) k e = go (eqb (d .node) node) (d .own) refl e (own-f
     go false o q e f = later (f e)
 
 own-node : (node : ℕ) (ds : List Demand) (k : ℕ) → ownFrom 0 node ds ≡ At k → getD ds k noDemand .node ≡ node
-own-node node ds k e = let z : k - 0 ≡ k = omega arith in rw z at (own-found 0 node ds k e .1)
+own-node node ds k e = let z : k - 0 ≡ k = omega arith in rw z at (own-row 0 node ds k e .1)
 
 -- ---- the words of a demand
 two-words : (o : Option Name) → nameWords o ≡ getD (nameWords o) 0 0 ∷ getD (nameWords o) 1 0 ∷ []
@@ -182,14 +172,14 @@ module _ {text : List ℕ} {m : Network} {s : Counts} {w : List ℕ} {f : List F
     unfolding addDemand
     demands-full e k = rw (e, le-ltb (length (m .demands)) roomDemands (omega (arith, k, count-demands h))) (refl, refl, refl)
 
-    pub appended : (w1 : List ℕ) (f1 : List Float) → ownFrom 0 node (m .demands) ≡ Nowhere → MayFit text p → s .demands < roomDemands
+    pub appended : (w1 : List ℕ) (f1 : List Float) → ownFrom 0 node (m .demands) ≡ Nowhere → MayFit text p → node < s .nodes → s .demands < roomDemands
         → w1 ≡ demandAdded w (s .demands) (demandAt node x (optIn text p)) → f1 ≡ splice f (demandNumbersAt + s .demands) (x ∷ [])
         → Adds
         (Stored (record { nodes = s .nodes; links = s .links; curves = s .curves; points = s .points; patterns = s .patterns; multipliers = s .multipliers; demands = s .demands + 1; rules = s .rules; clauses = s .clauses }))
         w1 f1
     unfolding addDemand
-    appended w1 f1 e fits k ew ef =
-        let h1 = add-demand h (demandAt node x (optIn text p)) (count-demands h) k (sits text p fits) ew ef in
+    appended w1 f1 e fits inside k ew ef =
+        let h1 = add-demand h (demandAt node x (optIn text p)) (count-demands h) k (sits text p fits) (omega (arith, inside, count-nodes h)) (λ f. absurd (false≢true f)) ew ef in
         rw (e, lt-ltb (length (m .demands)) roomDemands (omega (arith, k, count-demands h))) (rw (h .counts, length-append), h1)
 
     pub replaced : (k : ℕ) (w1 : List ℕ) (f1 : List Float) → ownFrom 0 node (m .demands) ≡ At k → MayFit text p
@@ -198,7 +188,7 @@ module _ {text : List ℕ} {m : Network} {s : Counts} {w : List ℕ} {f : List F
     unfolding addDemand
     replaced k w1 f1 e fits ew ef =
         let d : Demand = demandAt node x (optIn text p) in
-        let h1 = change-demand h k noDemand d (own-in node (m .demands) k e) (sits text p fits) (ap (λ (i : ℕ). i % 256) (sym (own-node node (m .demands) k e))) ew ef in
+        let h1 = change-demand h k noDemand d (own-in node (m .demands) k e) (sits text p fits) (ap (λ (i : ℕ). i % 256) (sym (own-node node (m .demands) k e))) (λ f. absurd (false≢true f)) ew ef in
         rw e (ap Stored (h .counts ∙ sym (same-count-demands m k d)), h1)
 
   module _ (id : Span) where

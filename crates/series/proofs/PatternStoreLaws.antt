@@ -17,13 +17,13 @@ use Rattle.scope.specs.Records.{Network, lookup}
 use Rattle.scope.specs.Sections.{roomPatterns, roomMultipliers}
 use Rattle.scope.specs.Values.{Read, good, bad, onRead, onTook, asNumber}
 use Rattle.scope.specs.Series.{multipliersOf, addPattern}
-use Rattle.scope.specs.Tables.{idWords}
 use Rattle.scope.specs.declared.Counts.{Counts}
 use Rattle.scope.specs.declared.Found.{Found}
 use Rattle.scope.specs.declared.Found.the-variants.{At, Nowhere}
 use Rattle.scope.specs.declared.Reason.the-variants.{Full}
 use Rattle.tables.specs.Table.{splice}
-use Rattle.tables.specs.Layout.{patternsAt, multipliersAt, idSize, multiplierNumbersAt}
+use Rattle.tables.specs.Layout.{multipliersAt, multiplierNumbersAt}
+use Rattle.tables.specs.Adding.{patternAdded}
 use Rattle.tables.specs.Holding.{Holds, After}
 use Rattle.tables.specs.declared.Kept.the-variants.{Stored, Refused}
 use Rattle.tables.proofs.HoldLaws.{sits-span, add-pattern, add-multipliers, count-patterns, count-multipliers}
@@ -80,7 +80,7 @@ module _ {text : List ℕ} {m : Network} {s : Counts} {w : List ℕ} {f : List F
         rw (e, le-leb (length (m .multipliers) + length xs) roomMultipliers (omega (arith, fit, count-multipliers h))) (rw (h .counts, length-append, length-map), h1)
 
     pub starts : (w1 w2 : List ℕ) (f1 : List Float) → lookup (m .patterns) letters ≡ Nowhere → Fits text id → s .patterns < roomPatterns
-        → w1 ≡ splice w (patternsAt + s .patterns * idSize) (idWords (nameIn text id))
+        → w1 ≡ patternAdded w (s .patterns) (nameIn text id)
         → w2 ≡ splice w1 (multipliersAt + s .multipliers) (replicate (length xs) (s .patterns)) → f1 ≡ splice f (multiplierNumbersAt + s .multipliers) xs
         → After text (addPattern (nameIn text id) xs m)
         (Stored (record { nodes = s .nodes; links = s .links; curves = s .curves; points = s .points; patterns = s .patterns + 1; multipliers = s .multipliers + length xs; demands = s .demands; rules = s .rules; clauses = s .clauses }))

@@ -13,15 +13,9 @@ use Rattle.scope.specs.Series.{multipliersOf, addPoint, curveStep, addPattern, 
 use Rattle.scope.specs.declared.Reason.{Reason}
 use Rattle.takers.specs.Taking.{optIn, MayFit}
 use Rattle.takers.proofs.TextLaws.{name-text, opt-text}
-use Rattle.tables.specs.Table.{splice}
-use Rattle.tables.proofs.AfterLaws.{splice-long}
 use Rattle.serieslines.specs.Lines.{PointFields, pointOf, pointIn, PatternFields, patternOf, DemandFields, demandOf, demandIn}
 use Rattle.serieslines.specs.declared.PointLine.{PointLine}
 use Rattle.serieslines.specs.declared.DemandLine.{DemandLine}
-
--- a table is as long as before a record was pasted
-pub pasted-long : (w1 w : List ℕ) (a : ℕ) (rec : List ℕ) {n : ℕ} → w1 ≡ splice w a rec → a + length rec ≤ length w → length w ≡ n → length w1 ≡ n
-pasted-long w1 w a rec e h k = ap length e ∙ splice-long w a rec h ∙ k
 
 -- ---- the steps
 module _ (m : Network) where

@@ -9,12 +9,13 @@ ghost use Rattle.scope.specs.Sections.{roomPoints, roomMultipliers, roomDemands
 ghost use Rattle.scope.specs.Records.{Network};
 ghost use Rattle.scope.specs.Values.{good};
 ghost use Rattle.scope.specs.Series.{multipliersOf, falls, lastX, addPoint, curveStep, addPattern, patternStep, demandAt, ownFrom, addDemand, setDemand, demandStep};
-ghost use Rattle.scope.specs.Tables.{recordWords, roomNumbers, demandWords};
+ghost use Rattle.scope.specs.Tables.{recordWords, roomNumbers, idWords, demandWords, marked, idSlot};
 ghost use Rattle.takers.specs.Taking.{optIn, MayFit};
 ghost use Rattle.tables.specs.Table.{splice};
-ghost use Rattle.tables.specs.Layout.{pointsAt, multipliersAt, demandsAt, demandSize, pointNumbersAt, pointNumbersSize, multiplierNumbersAt, demandNumbersAt};
+ghost use Rattle.tables.specs.Layout.{pointsAt, patternsAt, patternSlotsAt, idSize, multipliersAt, demandsAt, demandSize, pointNumbersAt, pointNumbersSize, multiplierNumbersAt, demandNumbersAt};
 ghost use Rattle.tables.specs.Holding.{Words, Numbers, Holds, Sound, After, noDemand};
 ghost use Rattle.series.specs.Storing.{isOwn};
+use fields::Span;
 use scope::Counts;
 use scope::Found;
 use scope::Reason;
@@ -26,6 +27,17 @@ use serieslines::PointLine;
 use serieslines::PointRead;
 use tables::Kept;
 use takers::TookNumber;
+
+// A curve's or a pattern's name as record n of those at `base`, and its slot of those at `slots`.
+fn put_id(text: &[u8], id: Span, n: usize, base: usize, slots: usize, words: &mut [u64])
+    requires { ⌜ (n < 64) × (base ≤ patternsAt) × (slots ≤ patternSlotsAt) × (length (now words) ≡ recordWords) ⌝ }
+    ensures { λ _. ⌜ now (words .exit) ≡ marked (splice (now (words .entry)) (base + n * idSize) (idWords (nameIn (now (text .entry)) id))) (slots + idSlot (nameIn (now (text .entry)) id)) (n + 1) ⌝ }
+{
+    let name = tables::id_words(text, id);
+    tables::paste_words(words, base + n * tables::ID_WORDS, &name);
+    let slot = tables::slot_of(name[2]);
+    tables::mark(words, slots + slot, n);
+}
 
 // ---- CURVES
 
@@ -83,8 +95,7 @@ fn store_point(text: &[u8], p: PointLine, s: Counts, words: &mut [u64], numbers:
         Found::Nowhere => {
             if n < 64 {
                 if k < 1024 {
-                    let name = tables::id_words(text, id);
-                    tables::paste_words(words, tables::CURVES + n * tables::ID_WORDS, &name);
+                    put_id(text, id, n, tables::CURVES, tables::CURVE_SLOTS, words);
                     put_point(words, numbers, k, n, p.x, p.y);
                     t.curves = n + 1;
                     return Kept::Stored(t);
@@ -174,8 +185,7 @@ fn store_pattern(
         }
         Found::Nowhere => {
             if n < 64 {
-                let name = tables::id_words(text, id);
-                tables::paste_words(words, tables::PATTERNS + n * tables::ID_WORDS, &name);
+                put_id(text, id, n, tables::PATTERNS, tables::PATTERN_SLOTS, words);
                 put_multipliers(line, at, k, n, words, numbers);
                 t.patterns = n + 1;
                 return Kept::Stored(t);
@@ -220,29 +230,18 @@ fn is_own(words: &[u64], k: usize, node: usize) -> bool
     false
 }
 
-// The place of the demand of the junction's own line, if it stands still.
+// The place of the demand of the junction's own line, if it stands still: it is the first in its slot.
 fn own_demand(words: &[u64], demands: usize, node: usize) -> Found
     requires { ⌜ (demands ≤ roomDemands) × (length (now words) ≡ recordWords) ⌝ }
     ensures { λ r. ⌜ ((text : List ℕ) (m : Network) → Words text m (now (words .entry)) → demands ≡ length (m .demands) → r ≡ ownFrom 0 node (m .demands)) ⌝ }
 {
-    let mut k = tables::first_in_slot(words, tables::DEMAND_SLOTS + node % 256, demands);
-    loop {
-        k = tables::next_with_word(
-            words,
-            tables::DEMANDS,
-            tables::DEMAND_WORDS,
-            k,
-            demands,
-            node as u64,
-        );
-        if demands <= k {
-            return Found::Nowhere;
-        }
+    let k = tables::first_in_slot(words, tables::DEMAND_SLOTS + node % 256, demands);
+    if k < demands {
         if is_own(words, k, node) {
             return Found::At(k);
         }
-        k += 1;
     }
+    Found::Nowhere
 }
 
 // Demand number k.
@@ -276,7 +275,7 @@ fn add_demand(
     words: &mut [u64],
     numbers: &mut [f64],
 ) -> Kept
-    requires { ⌜ Sound (now text) s (now words) (now numbers) × MayFit (now text) (d .pattern) ⌝ }
+    requires { ⌜ Sound (now text) s (now words) (now numbers) × MayFit (now text) (d .pattern) × (node < s .nodes) ⌝ }
     ensures { λ r. ⌜ ((m : Network) → Holds (now (text .entry)) m s (now (words .entry)) (now (numbers .entry))
         → After (now (text .entry)) (addDemand node (d .base) (optIn (now (text .entry)) (d .pattern)) m) r (now (words .entry)) (now (numbers .entry)) (now (words .exit)) (now (numbers .exit))) ⌝ }
 {

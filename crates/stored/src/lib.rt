@@ -23,7 +23,7 @@ use scope::Tank;
 use scope::Value;
 use scope::ValveType;
 
-const ROOM_WORDS: usize = 15907;
+const ROOM_WORDS: usize = 17137;
 
 // ---- what the records are
 
@@ -207,7 +207,7 @@ fn kind_at(words: &[u64], numbers: &[f64], a: usize, b: usize) -> NodeKind
 }
 
 fn node_row(words: &[u64], numbers: &[f64], i: usize) -> Node
-    requires { ⌜ (i < 256) × (15898 ≤ length (now words)) × (8192 ≤ length (now numbers)) ⌝ }
+    requires { ⌜ (i < 256) × (17128 ≤ length (now words)) × (8192 ≤ length (now numbers)) ⌝ }
     ensures { λ r. ⌜ ((m : Network) → Stands m (now (words .entry)) (now (numbers .entry)) → r ≡ nodeBack (getD (m .nodes) i noNode)) ⌝ }
 {
     let a = tables::NODES + i * tables::NODE_WORDS;
@@ -300,7 +300,7 @@ fn link_kind_at(words: &[u64], numbers: &[f64], a: usize, b: usize) -> LinkKind
 }
 
 fn link_row(words: &[u64], numbers: &[f64], i: usize) -> Link
-    requires { ⌜ (i < 256) × (15898 ≤ length (now words)) × (8192 ≤ length (now numbers)) ⌝ }
+    requires { ⌜ (i < 256) × (17128 ≤ length (now words)) × (8192 ≤ length (now numbers)) ⌝ }
     ensures { λ r. ⌜ ((m : Network) → Stands m (now (words .entry)) (now (numbers .entry)) → r ≡ linkBack (getD (m .links) i noLink)) ⌝ }
 {
     let a = tables::LINKS + i * tables::LINK_WORDS;
@@ -339,7 +339,7 @@ pub fn link_at(words: &[u64], numbers: &[f64], i: usize) -> Link
 // ---- curves, patterns, demands, times
 
 fn curve_row(words: &[u64], i: usize) -> Curve
-    requires { ⌜ (i < 64) × (15898 ≤ length (now words)) ⌝ }
+    requires { ⌜ (i < 64) × (17128 ≤ length (now words)) ⌝ }
     ensures { λ r. ⌜ ((m : Network) (f : List Float) → Stands m (now (words .entry)) f → r ≡ curveBack (getD (m .curves) i noName)) ⌝ }
 {
     let id = span_at(words, tables::CURVES + i * tables::ID_WORDS);
@@ -359,7 +359,7 @@ pub fn curve_at(words: &[u64], i: usize) -> Curve
 }
 
 fn pattern_row(words: &[u64], i: usize) -> Pattern
-    requires { ⌜ (i < 64) × (15898 ≤ length (now words)) ⌝ }
+    requires { ⌜ (i < 64) × (17128 ≤ length (now words)) ⌝ }
     ensures { λ r. ⌜ ((m : Network) (f : List Float) → Stands m (now (words .entry)) f → r ≡ patternBack (getD (m .patterns) i noName)) ⌝ }
 {
     let id = span_at(words, tables::PATTERNS + i * tables::ID_WORDS);
@@ -379,7 +379,7 @@ pub fn pattern_at(words: &[u64], i: usize) -> Pattern
 }
 
 fn point_row(words: &[u64], numbers: &[f64], i: usize) -> Point
-    requires { ⌜ (i < 1024) × (15898 ≤ length (now words)) × (8192 ≤ length (now numbers)) ⌝ }
+    requires { ⌜ (i < 1024) × (17128 ≤ length (now words)) × (8192 ≤ length (now numbers)) ⌝ }
     ensures { λ r. ⌜ ((m : Network) → Stands m (now (words .entry)) (now (numbers .entry)) → r ≡ pointBack (getD (m .points) i noPoint)) ⌝ }
 {
     let b = tables::POINT_NUMBERS + i * tables::NUMBERS_OF_POINT;
@@ -405,7 +405,7 @@ pub fn point_at(words: &[u64], numbers: &[f64], i: usize) -> Point
 }
 
 fn multiplier_row(words: &[u64], numbers: &[f64], i: usize) -> Multiplier
-    requires { ⌜ (i < 2048) × (15898 ≤ length (now words)) × (8192 ≤ length (now numbers)) ⌝ }
+    requires { ⌜ (i < 2048) × (17128 ≤ length (now words)) × (8192 ≤ length (now numbers)) ⌝ }
     ensures { λ r. ⌜ ((m : Network) → Stands m (now (words .entry)) (now (numbers .entry)) → r ≡ multiplierBack (getD (m .multipliers) i noMultiplier)) ⌝ }
 {
     Multiplier {
@@ -428,7 +428,7 @@ pub fn multiplier_at(words: &[u64], numbers: &[f64], i: usize) -> Multiplier
 }
 
 fn demand_row(words: &[u64], numbers: &[f64], i: usize) -> Demand
-    requires { ⌜ (i < 512) × (15898 ≤ length (now words)) × (8192 ≤ length (now numbers)) ⌝ }
+    requires { ⌜ (i < 512) × (17128 ≤ length (now words)) × (8192 ≤ length (now numbers)) ⌝ }
     ensures { λ r. ⌜ ((m : Network) → Stands m (now (words .entry)) (now (numbers .entry)) → r ≡ demandBack (getD (m .demands) i noDemand)) ⌝ }
 {
     let a = tables::DEMANDS + i * tables::DEMAND_WORDS;
@@ -460,7 +460,7 @@ pub fn demand_at(words: &[u64], numbers: &[f64], i: usize) -> Demand
 }
 
 fn time_row(words: &[u64], i: usize) -> Amount
-    requires { ⌜ (i < 6) × (15898 ≤ length (now words)) ⌝ }
+    requires { ⌜ (i < 6) × (17128 ≤ length (now words)) ⌝ }
     ensures { λ r. ⌜ ((m : Network) (f : List Float) → Stands m (now (words .entry)) f → r ≡ amountOf (getD (m .times) i none)) ⌝ }
 {
     let a = tables::TIMES + i * tables::TIME_WORDS;
@@ -480,7 +480,7 @@ pub fn time_at(words: &[u64], i: usize) -> Amount
 // ---- rules
 
 fn rule_row(words: &[u64], i: usize) -> Rule
-    requires { ⌜ (i < 64) × (15898 ≤ length (now words)) ⌝ }
+    requires { ⌜ (i < 64) × (17128 ≤ length (now words)) ⌝ }
     ensures { λ r. ⌜ ((m : Network) (f : List Float) → Stands m (now (words .entry)) f → r ≡ ruleBack (getD (m .rules) i noRule)) ⌝ }
 {
     let a = tables::RULES + i * tables::RULE_WORDS;
@@ -552,7 +552,7 @@ fn clause_by(words: &[u64], a: usize, x: f64) -> Clause
 }
 
 fn clause_row(words: &[u64], numbers: &[f64], i: usize) -> Clause
-    requires { ⌜ (i < 512) × (15898 ≤ length (now words)) × (8192 ≤ length (now numbers)) ⌝ }
+    requires { ⌜ (i < 512) × (17128 ≤ length (now words)) × (8192 ≤ length (now numbers)) ⌝ }
     ensures { λ r. ⌜ ((m : Network) → Stands m (now (words .entry)) (now (numbers .entry)) → r ≡ clauseBack (getD (m .clauses) i noClause)) ⌝ }
 {
     clause_by(

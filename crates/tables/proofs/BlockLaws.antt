@@ -1,6 +1,7 @@
 -- Blocks one after another: what is put in one of them. Assumes nothing.
 use Prim.Native.Nat.{ℕ, zero, suc, _+_, _-_, _*_, _≤_, _<_}
 use native.Mathlib.Omega.{arith}
+use native.Mathlib.Numerals.{add-one}
 use native.Mathlib.Nat.{add-assoc, zero-add, suc-add, suc-mul, zero-mul}
 use mathlib.Core.Path.{_≡_, refl, sym, ap, _∙_}
 use mathlib.Core.List.{List, [], _∷_, _++_, map, append-assoc, append-nil}
@@ -124,7 +125,7 @@ module _ {A R : Type 0} {enc : R → List A} {z : A} {bs : List (List A)} {b n b
       e ∙ ap (λ (l : List A). splice l (base + off) rec) exact ∙ at ∙ ap (λ (l : List A). blocks (set bs b l)) made
 
   -- other records in their place: no block is longer or shorter
-  pub sizes-kept : (qs : List R) → length qs * k ≤ n → map length (set bs b (region enc z n qs)) ≡ map length bs
+  sizes-kept : (qs : List R) → length qs * k ≤ n → map length (set bs b (region enc z n qs)) ≡ map length bs
   sizes-kept qs h = map-set-same length bs b (region enc z n qs) [] (region-length enc z k n (g .same-size) qs h ∙ sym long)
 
   -- several records more
@@ -188,7 +189,7 @@ module _ {R : Type 0} {slot : R → ℕ} {bs : List (List ℕ)} {b n base : ℕ}
   as-many = ap length (g .is) ∙ slots-long slot n rs
 
   -- one record more
-  pub add-slot : {c : ℕ} (r : R) {w′ : List ℕ} → c ≡ length rs → slot r < n → w′ ≡ marked w (base + slot r) (c + 1) → w′ ≡ blocks (set bs b (slots slot n (rs ++ (r ∷ []))))
+  add-slot : {c : ℕ} (r : R) {w′ : List ℕ} → c ≡ length rs → slot r < n → w′ ≡ marked w (base + slot r) (c + 1) → w′ ≡ blocks (set bs b (slots slot n (rs ++ (r ∷ []))))
   add-slot {c} r ec h e =
       let at : marked (blocks bs) (base + slot r) (c + 1) ≡ blocks (set bs b (marked (getD bs b []) (slot r) (c + 1))) =
       rw (← g .start) (mark-in bs (g .sizes) (g .sized) b (slot r) (c + 1) (g .block) (omega (arith, as-many))) in
@@ -198,3 +199,15 @@ module _ {R : Type 0} {slot : R → ℕ} {bs : List (List ℕ)} {b n base : ℕ}
   -- what a slot holds
   pub slot-word : (h : ℕ) → h < n → getD w (base + h) 0 ≡ getD (slots slot n rs) h 0
   slot-word h hh = rw (← g .start, exact) (get-in bs (g .sizes) (g .sized) b h 0 (g .block) (omega (arith, as-many)) ∙ ap (λ (l : List ℕ). getD l h 0) (g .is))
+
+-- one record more of block b, and its slot in block sb: what then stands in both
+module _ {R : Type 0} {enc : R → List ℕ} {z : ℕ} {bs : List (List ℕ)} {b n base k : ℕ} {rs : List R} (g : Lies enc z bs b n base k rs) {w : List ℕ} (exact : w ≡ blocks bs)
+    (slot : R → ℕ) (sizes : List ℕ) (sized : map length bs ≡ sizes) (sb sn sat : ℕ) (start : sum (take sb sizes) ≡ sat) (block : sb < length bs) where
+  pub add-slotted : {c : ℕ} (r : R) {w′ : List ℕ} → getD (set bs b (region enc z n (rs ++ (r ∷ [])))) sb [] ≡ slots slot sn rs → c ≡ length rs → c * k + k ≤ n → slot r < sn
+      → w′ ≡ marked (splice w (base + c * k) (enc r)) (sat + slot r) (c + 1) → w′ ≡ blocks (set (set bs b (region enc z n (rs ++ (r ∷ [])))) sb (slots slot sn (rs ++ (r ∷ []))))
+  add-slotted {c} r is ec h hs e =
+      let qs : List R = rs ++ (r ∷ []) in
+      let fit : length qs * k ≤ n = rw (length-append rs (r ∷ []), add-one, suc-mul, ← ec) h in
+      let at : Slotted slot (set bs b (region enc z n qs)) sb sn sat rs =
+      record { sizes = sizes; sized = sizes-kept g exact qs fit ∙ sized; start = start; block = rw length-set block; is = is } in
+      add-slot at (add-record g exact r ec h refl) r ec hs e

@@ -8,8 +8,9 @@ use mathlib.Core.Option.{Option, none, some}
 use lib.ListN.{length, drop, replicate, length-append, replicate-append-replicate}
 use lib.Ieee.{Float}
 use Rattle.scope.specs.Records.{Network, zeroF, noNetwork, countsOf}
-use Rattle.scope.specs.Tables.{flat, region, blocks, recordWords, roomNumbers, idWords, countWords, nodeWords, nodeNumbers, linkWords, linkNumbers, pointWords, pointNumbers, multiplierWords, multiplierNumbers, demandWords, demandNumbers, ruleWords, clauseWords, clauseNumbers, slotsFrom, slots, nodeSlot, linkSlot, demandSlot, wordBlocks, numberBlocks}
+use Rattle.scope.specs.Tables.{flat, region, blocks, recordWords, roomNumbers, idWords, countWords, nodeWords, nodeNumbers, linkWords, linkNumbers, pointWords, pointNumbers, multiplierWords, multiplierNumbers, demandWords, demandNumbers, ruleWords, clauseWords, clauseNumbers, slotsFrom, slots, idSlot, nodeSlot, linkSlot, demandSlot, wordBlocks, numberBlocks}
 use Rattle.tables.specs.Holding.{Known, Words, Numbers, Holds}
+use Rattle.tables.proofs.SlotLaws.{zero-at}
 use Rattle.tables.proofs.BlockLaws.{sum}
 use Rattle.tables.proofs.SizeLaws.{word-sizes, number-sizes}
 
@@ -51,19 +52,21 @@ none-slotted slot n = refl
 empty-words : blocks (wordBlocks noNetwork) ≡ replicate recordWords 0
 unfolding wordBlocks
 empty-words =
-    one-more 0 (drop 1 (wordBlocks noNetwork)) 2048 13850 (none-in 0 nodeWords 2048)
-    (one-more 0 (drop 2 (wordBlocks noNetwork)) 2304 11546 (none-in 0 linkWords 2304)
-    (one-more 0 (drop 3 (wordBlocks noNetwork)) 192 11354 (none-in 0 idWords 192)
-    (one-more 0 (drop 4 (wordBlocks noNetwork)) 1024 10330 (none-in 0 pointWords 1024)
-    (one-more 0 (drop 5 (wordBlocks noNetwork)) 192 10138 (none-in 0 idWords 192)
-    (one-more 0 (drop 6 (wordBlocks noNetwork)) 2048 8090 (none-in 0 multiplierWords 2048)
-    (one-more 0 (drop 7 (wordBlocks noNetwork)) 2560 5530 (none-in 0 demandWords 2560)
-    (one-more 0 (drop 8 (wordBlocks noNetwork)) 12 5518 times-none
-    (one-more 0 (drop 9 (wordBlocks noNetwork)) 448 5070 (none-in 0 ruleWords 448)
-    (one-more 0 (drop 10 (wordBlocks noNetwork)) 3584 1486 (none-in 0 clauseWords 3584)
-    (one-more 0 (drop 11 (wordBlocks noNetwork)) 615 871 (none-slotted nodeSlot 615)
-    (one-more 0 (drop 12 (wordBlocks noNetwork)) 615 256 (none-slotted linkSlot 615)
-    (one-more 0 (drop 13 (wordBlocks noNetwork)) 256 0 (none-slotted demandSlot 256) (no-more 0)))))))))))))
+    one-more 0 (drop 1 (wordBlocks noNetwork)) 2048 15080 (none-in 0 nodeWords 2048)
+    (one-more 0 (drop 2 (wordBlocks noNetwork)) 2304 12776 (none-in 0 linkWords 2304)
+    (one-more 0 (drop 3 (wordBlocks noNetwork)) 192 12584 (none-in 0 idWords 192)
+    (one-more 0 (drop 4 (wordBlocks noNetwork)) 1024 11560 (none-in 0 pointWords 1024)
+    (one-more 0 (drop 5 (wordBlocks noNetwork)) 192 11368 (none-in 0 idWords 192)
+    (one-more 0 (drop 6 (wordBlocks noNetwork)) 2048 9320 (none-in 0 multiplierWords 2048)
+    (one-more 0 (drop 7 (wordBlocks noNetwork)) 2560 6760 (none-in 0 demandWords 2560)
+    (one-more 0 (drop 8 (wordBlocks noNetwork)) 12 6748 times-none
+    (one-more 0 (drop 9 (wordBlocks noNetwork)) 448 6300 (none-in 0 ruleWords 448)
+    (one-more 0 (drop 10 (wordBlocks noNetwork)) 3584 2716 (none-in 0 clauseWords 3584)
+    (one-more 0 (drop 11 (wordBlocks noNetwork)) 615 2101 (none-slotted nodeSlot 615)
+    (one-more 0 (drop 12 (wordBlocks noNetwork)) 615 1486 (none-slotted linkSlot 615)
+    (one-more 0 (drop 13 (wordBlocks noNetwork)) 615 871 (none-slotted idSlot 615)
+    (one-more 0 (drop 14 (wordBlocks noNetwork)) 615 256 (none-slotted idSlot 615)
+    (one-more 0 (drop 15 (wordBlocks noNetwork)) 256 0 (none-slotted demandSlot 256) (no-more 0)))))))))))))))
 
 empty-numbers : blocks (numberBlocks noNetwork) ≡ replicate roomNumbers zeroF
 unfolding numberBlocks
@@ -76,6 +79,7 @@ empty-numbers =
     (one-more zeroF (drop 6 (numberBlocks noNetwork)) 512 0 (none-in zeroF clauseNumbers 512) (no-more zeroF))))))
 
 none-known : (text : List ℕ) → Known text noNetwork
+unfolding slotsFrom
 none-known text =
     record {
       nodes = record { bound = omega arith; fine = tt };
@@ -88,6 +92,7 @@ none-known text =
       times = refl;
       rules = record { bound = omega arith; fine = tt };
       clauses = record { bound = omega arith; fine = tt };
+      owned = record { first = λ k h. absurd (omega arith); beyond = λ h l. zero-at 256 h };
     }
 
 pub empty : (text w : List ℕ) (f : List Float) → w ≡ replicate recordWords 0 → f ≡ replicate roomNumbers zeroF → Holds text noNetwork (countsOf noNetwork) w f

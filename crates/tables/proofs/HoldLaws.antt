@@ -2,6 +2,7 @@
 use Prim.Native.Nat.{ℕ, zero, suc, _+_, _-_, _*_, _≤_, _<_}
 use native.Mathlib.Omega.{arith}
 use native.Mathlib.Nat.{mul-one}
+use mathlib.Core.Bool.{true}
 use mathlib.Core.Path.{_≡_, refl, sym, ap, _∙_, subst}
 use mathlib.Core.List.{List, [], _∷_, _++_, map}
 use mathlib.Core.Option.{Option, none, some}
@@ -15,14 +16,15 @@ use Rattle.fields.proofs.FieldLaws.{length-part}
 use Rattle.scope.specs.Records.{Network, Node, Link, Point, Multiplier, Demand, Rule, Clause, zeroF, noNetwork, countsOf, withNodes, withLinks, withCurves, withPoints, withPatterns, withMultipliers, withDemands, withTimes, withRules, withClauses}
 use Rattle.scope.specs.Sections.{roomNodes, roomLinks, roomCurves, roomPoints, roomPatterns, roomMultipliers, roomDemands, roomRules, roomClauses}
 use Rattle.scope.specs.Series.{multiplierOf}
-use Rattle.scope.specs.Tables.{flat, region, blocks, recordWords, roomNumbers, idWords, countWords, nodeWords, nodeNumbers, linkWords, linkNumbers, pointWords, pointNumbers, multiplierWords, multiplierNumbers, demandWords, demandNumbers, ruleWords, clauseWords, clauseNumbers, marked, slots, nodeSlot, linkSlot, demandSlot, wordBlocks, numberBlocks}
+use Rattle.scope.specs.Tables.{flat, region, blocks, recordWords, roomNumbers, idWords, countWords, nodeWords, nodeNumbers, linkWords, linkNumbers, pointWords, pointNumbers, multiplierWords, multiplierNumbers, demandWords, demandNumbers, ruleWords, clauseWords, clauseNumbers, marked, slots, idSlot, nodeSlot, linkSlot, demandSlot, wordBlocks, numberBlocks}
 use Rattle.scope.specs.declared.Counts.{Counts}
 use Rattle.tables.specs.Table.{splice}
-use Rattle.tables.specs.Layout.{nodesAt, linksAt, curvesAt, pointsAt, patternsAt, multipliersAt, demandsAt, timesAt, rulesAt, clausesAt, nodeSlotsAt, linkSlotsAt, demandSlotsAt, nodeSize, linkSize, idSize, demandSize, timeSize, ruleSize, clauseSize, nodeNumbersAt, linkNumbersAt, pointNumbersAt, multiplierNumbersAt, demandNumbersAt, clauseNumbersAt, nodeNumbersSize, linkNumbersSize, pointNumbersSize}
-use Rattle.tables.specs.Adding.{nodeAdded, linkAdded, demandAdded}
-use Rattle.tables.specs.Holding.{Sits, SitsOr, optIn, MayFit, Each, Part, NodeFine, LinkFine, PointFine, MultiplierFine, DemandFine, RuleFine, ClauseFine, Known, Words, Numbers, Holds}
+use Rattle.tables.specs.Layout.{nodesAt, linksAt, curvesAt, pointsAt, patternsAt, multipliersAt, demandsAt, timesAt, rulesAt, clausesAt, nodeSlotsAt, linkSlotsAt, curveSlotsAt, patternSlotsAt, demandSlotsAt, nodeSize, linkSize, idSize, demandSize, timeSize, ruleSize, clauseSize, nodeNumbersAt, linkNumbersAt, pointNumbersAt, multiplierNumbersAt, demandNumbersAt, clauseNumbersAt, nodeNumbersSize, linkNumbersSize, pointNumbersSize}
+use Rattle.tables.specs.Adding.{nodeAdded, linkAdded, curveAdded, patternAdded, demandAdded}
+use Rattle.tables.specs.Holding.{Sits, SitsOr, optIn, MayFit, Each, Part, NodeFine, LinkFine, PointFine, MultiplierFine, DemandFine, RuleFine, ClauseFine, noDemand, Owned, Known, Words, Numbers, Holds}
 use Rattle.tables.proofs.SlotLaws.{slots-same}
-use Rattle.tables.proofs.BlockLaws.{Slotted, add-records, add-record, change-part, change-record, keep-record, sizes-kept, add-slot}
+use Rattle.tables.proofs.OwnLaws.{owned-nodes, owned-more, owned-set}
+use Rattle.tables.proofs.BlockLaws.{add-records, add-record, change-part, change-record, keep-record, add-slotted}
 use Rattle.tables.proofs.SizeLaws.{wordSizes, word-sizes, node-words-lie, link-words-lie, curve-words-lie, point-words-lie, pattern-words-lie, multiplier-words-lie, demand-words-lie, time-words-lie, rule-words-lie, clause-words-lie, node-numbers-lie, link-numbers-lie, point-numbers-lie, multiplier-numbers-lie, demand-numbers-lie, clause-numbers-lie}
 
 -- ---- names
@@ -69,83 +71,90 @@ each-any (r ∷ rs) = (tt, each-any rs)
 
 -- ---- the network with other records of one kind
 module _ {text : List ℕ} {m : Network} (k : Known text m) where
-  known-nodes : (xs : List Node) → Part (NodeFine text) roomNodes xs → Known text (withNodes xs m)
-  known-nodes xs p = record { nodes = p; links = k .links; curves = k .curves; points = k .points; patterns = k .patterns; multipliers = k .multipliers; demands = k .demands; times = k .times; rules = k .rules; clauses = k .clauses }
+  known-nodes : (xs : List Node) → Part (NodeFine text) roomNodes xs → length (m .nodes) ≤ length xs → Known text (withNodes xs m)
+  known-nodes xs p l = record { nodes = p; links = k .links; curves = k .curves; points = k .points; patterns = k .patterns; multipliers = k .multipliers; demands = k .demands; times = k .times; rules = k .rules; clauses = k .clauses; owned = owned-nodes (k .owned) l }
 
   known-links : (xs : List Link) → Part (LinkFine text) roomLinks xs → Known text (withLinks xs m)
-  known-links xs p = record { nodes = k .nodes; links = p; curves = k .curves; points = k .points; patterns = k .patterns; multipliers = k .multipliers; demands = k .demands; times = k .times; rules = k .rules; clauses = k .clauses }
+  known-links xs p = record { nodes = k .nodes; links = p; curves = k .curves; points = k .points; patterns = k .patterns; multipliers = k .multipliers; demands = k .demands; times = k .times; rules = k .rules; clauses = k .clauses; owned = k .owned }
 
   known-curves : (xs : List Name) → Part (Sits text) roomCurves xs → Known text (withCurves xs m)
-  known-curves xs p = record { nodes = k .nodes; links = k .links; curves = p; points = k .points; patterns = k .patterns; multipliers = k .multipliers; demands = k .demands; times = k .times; rules = k .rules; clauses = k .clauses }
+  known-curves xs p = record { nodes = k .nodes; links = k .links; curves = p; points = k .points; patterns = k .patterns; multipliers = k .multipliers; demands = k .demands; times = k .times; rules = k .rules; clauses = k .clauses; owned = k .owned }
 
   known-points : (xs : List Point) → Part PointFine roomPoints xs → Known text (withPoints xs m)
-  known-points xs p = record { nodes = k .nodes; links = k .links; curves = k .curves; points = p; patterns = k .patterns; multipliers = k .multipliers; demands = k .demands; times = k .times; rules = k .rules; clauses = k .clauses }
+  known-points xs p = record { nodes = k .nodes; links = k .links; curves = k .curves; points = p; patterns = k .patterns; multipliers = k .multipliers; demands = k .demands; times = k .times; rules = k .rules; clauses = k .clauses; owned = k .owned }
 
   known-patterns : (xs : List Name) → Part (Sits text) roomPatterns xs → Known text (withPatterns xs m)
-  known-patterns xs p = record { nodes = k .nodes; links = k .links; curves = k .curves; points = k .points; patterns = p; multipliers = k .multipliers; demands = k .demands; times = k .times; rules = k .rules; clauses = k .clauses }
+  known-patterns xs p = record { nodes = k .nodes; links = k .links; curves = k .curves; points = k .points; patterns = p; multipliers = k .multipliers; demands = k .demands; times = k .times; rules = k .rules; clauses = k .clauses; owned = k .owned }
 
   known-multipliers : (xs : List Multiplier) → Part MultiplierFine roomMultipliers xs → Known text (withMultipliers xs m)
-  known-multipliers xs p = record { nodes = k .nodes; links = k .links; curves = k .curves; points = k .points; patterns = k .patterns; multipliers = p; demands = k .demands; times = k .times; rules = k .rules; clauses = k .clauses }
+  known-multipliers xs p = record { nodes = k .nodes; links = k .links; curves = k .curves; points = k .points; patterns = k .patterns; multipliers = p; demands = k .demands; times = k .times; rules = k .rules; clauses = k .clauses; owned = k .owned }
 
-  known-demands : (xs : List Demand) → Part (DemandFine text) roomDemands xs → Known text (withDemands xs m)
-  known-demands xs p = record { nodes = k .nodes; links = k .links; curves = k .curves; points = k .points; patterns = k .patterns; multipliers = k .multipliers; demands = p; times = k .times; rules = k .rules; clauses = k .clauses }
+  known-demands : (xs : List Demand) → Part (DemandFine text) roomDemands xs → Owned (length (m .nodes)) xs → Known text (withDemands xs m)
+  known-demands xs p o = record { nodes = k .nodes; links = k .links; curves = k .curves; points = k .points; patterns = k .patterns; multipliers = k .multipliers; demands = p; times = k .times; rules = k .rules; clauses = k .clauses; owned = o }
 
   known-times : (xs : List (Option ℕ)) → length xs ≡ 6 → Known text (withTimes xs m)
-  known-times xs p = record { nodes = k .nodes; links = k .links; curves = k .curves; points = k .points; patterns = k .patterns; multipliers = k .multipliers; demands = k .demands; times = p; rules = k .rules; clauses = k .clauses }
+  known-times xs p = record { nodes = k .nodes; links = k .links; curves = k .curves; points = k .points; patterns = k .patterns; multipliers = k .multipliers; demands = k .demands; times = p; rules = k .rules; clauses = k .clauses; owned = k .owned }
 
   known-rules : (xs : List Rule) → Part (RuleFine text) roomRules xs → Known text (withRules xs m)
-  known-rules xs p = record { nodes = k .nodes; links = k .links; curves = k .curves; points = k .points; patterns = k .patterns; multipliers = k .multipliers; demands = k .demands; times = k .times; rules = p; clauses = k .clauses }
+  known-rules xs p = record { nodes = k .nodes; links = k .links; curves = k .curves; points = k .points; patterns = k .patterns; multipliers = k .multipliers; demands = k .demands; times = k .times; rules = p; clauses = k .clauses; owned = k .owned }
 
   known-clauses : (xs : List Clause) → Part ClauseFine roomClauses xs → Known text (withClauses xs m)
-  known-clauses xs p = record { nodes = k .nodes; links = k .links; curves = k .curves; points = k .points; patterns = k .patterns; multipliers = k .multipliers; demands = k .demands; times = k .times; rules = k .rules; clauses = p }
+  known-clauses xs p = record { nodes = k .nodes; links = k .links; curves = k .curves; points = k .points; patterns = k .patterns; multipliers = k .multipliers; demands = k .demands; times = k .times; rules = k .rules; clauses = p; owned = k .owned }
 
 -- ---- the words
 module _ {text : List ℕ} {m : Network} {w : List ℕ} (h : Words text m w) where
   more-node-words : {w′ : List ℕ} {n : ℕ} (x : Node) → n ≡ length (m .nodes) → n < roomNodes → NodeFine text x → w′ ≡ nodeAdded w n x → Words text (withNodes (m .nodes ++ (x ∷ [])) m) w′
   unfolding wordBlocks
   more-node-words {n = n} x c r a e =
-      let xs : List Node = m .nodes ++ (x ∷ []) in
       let p = more (h .known .nodes) x c r a in
-      let g = node-words-lie (h .known) in
-      let at : Slotted nodeSlot (set (wordBlocks m) 0 (region nodeWords 0 2048 xs)) 10 615 nodeSlotsAt (m .nodes) =
-      record { sizes = wordSizes; sized = sizes-kept g (h .exact) xs (omega (arith, p .bound)) ∙ word-sizes (h .known); start = refl; block = omega arith; is = refl } in
-      record { exact = add-slot at (add-record g (h .exact) x c (omega arith) refl) x c (omega arith) e; known = known-nodes (h .known) xs p }
+      record {
+        exact = add-slotted (node-words-lie (h .known)) (h .exact) nodeSlot wordSizes (word-sizes (h .known)) 10 615 nodeSlotsAt refl (omega arith) x refl c (omega arith) (omega arith) e;
+        known = known-nodes (h .known) (m .nodes ++ (x ∷ [])) p (omega (arith, length-append (m .nodes) (x ∷ [])));
+      }
 
   more-link-words : {w′ : List ℕ} {n : ℕ} (x : Link) → n ≡ length (m .links) → n < roomLinks → Sits text (x .id) → w′ ≡ linkAdded w n x → Words text (withLinks (m .links ++ (x ∷ [])) m) w′
   unfolding wordBlocks
   more-link-words {n = n} x c r a e =
-      let xs : List Link = m .links ++ (x ∷ []) in
       let p = more (h .known .links) x c r a in
-      let g = link-words-lie (h .known) in
-      let at : Slotted linkSlot (set (wordBlocks m) 1 (region linkWords 0 2304 xs)) 11 615 linkSlotsAt (m .links) =
-      record { sizes = wordSizes; sized = sizes-kept g (h .exact) xs (omega (arith, p .bound)) ∙ word-sizes (h .known); start = refl; block = omega arith; is = refl } in
-      record { exact = add-slot at (add-record g (h .exact) x c (omega arith) refl) x c (omega arith) e; known = known-links (h .known) xs p }
+      record {
+        exact = add-slotted (link-words-lie (h .known)) (h .exact) linkSlot wordSizes (word-sizes (h .known)) 11 615 linkSlotsAt refl (omega arith) x refl c (omega arith) (omega arith) e;
+        known = known-links (h .known) (m .links ++ (x ∷ [])) p;
+      }
 
-  more-curve-words : {w′ : List ℕ} {n : ℕ} (x : Name) → n ≡ length (m .curves) → n < roomCurves → Sits text x → w′ ≡ splice w (curvesAt + n * idSize) (idWords x) → Words text (withCurves (m .curves ++ (x ∷ [])) m) w′
+  more-curve-words : {w′ : List ℕ} {n : ℕ} (x : Name) → n ≡ length (m .curves) → n < roomCurves → Sits text x → w′ ≡ curveAdded w n x → Words text (withCurves (m .curves ++ (x ∷ [])) m) w′
   unfolding wordBlocks
-  more-curve-words {n = n} x c r a e = record { exact = add-record (curve-words-lie (h .known)) (h .exact) x c (omega arith) e; known = known-curves (h .known) (m .curves ++ (x ∷ [])) (more (h .known .curves) x c r a) }
+  more-curve-words {n = n} x c r a e =
+      let p = more (h .known .curves) x c r a in
+      record {
+        exact = add-slotted (curve-words-lie (h .known)) (h .exact) idSlot wordSizes (word-sizes (h .known)) 12 615 curveSlotsAt refl (omega arith) x refl c (omega arith) (omega arith) e;
+        known = known-curves (h .known) (m .curves ++ (x ∷ [])) p;
+      }
 
   more-point-words : {w′ : List ℕ} {n : ℕ} (x : Point) → n ≡ length (m .points) → n < roomPoints → w′ ≡ splice w (pointsAt + n) (pointWords x) → Words text (withPoints (m .points ++ (x ∷ [])) m) w′
   unfolding wordBlocks
   more-point-words {n = n} x c r e = record { exact = add-record (point-words-lie (h .known)) (h .exact) x c (omega arith) (rw mul-one e); known = known-points (h .known) (m .points ++ (x ∷ [])) (more (h .known .points) x c r tt) }
 
-  more-pattern-words : {w′ : List ℕ} {n : ℕ} (x : Name) → n ≡ length (m .patterns) → n < roomPatterns → Sits text x → w′ ≡ splice w (patternsAt + n * idSize) (idWords x) → Words text (withPatterns (m .patterns ++ (x ∷ [])) m) w′
+  more-pattern-words : {w′ : List ℕ} {n : ℕ} (x : Name) → n ≡ length (m .patterns) → n < roomPatterns → Sits text x → w′ ≡ patternAdded w n x → Words text (withPatterns (m .patterns ++ (x ∷ [])) m) w′
   unfolding wordBlocks
-  more-pattern-words {n = n} x c r a e = record { exact = add-record (pattern-words-lie (h .known)) (h .exact) x c (omega arith) e; known = known-patterns (h .known) (m .patterns ++ (x ∷ [])) (more (h .known .patterns) x c r a) }
+  more-pattern-words {n = n} x c r a e =
+      let p = more (h .known .patterns) x c r a in
+      record {
+        exact = add-slotted (pattern-words-lie (h .known)) (h .exact) idSlot wordSizes (word-sizes (h .known)) 13 615 patternSlotsAt refl (omega arith) x refl c (omega arith) (omega arith) e;
+        known = known-patterns (h .known) (m .patterns ++ (x ∷ [])) p;
+      }
 
   more-multiplier-words : {w′ : List ℕ} {n : ℕ} (x : Multiplier) → n ≡ length (m .multipliers) → n < roomMultipliers → w′ ≡ splice w (multipliersAt + n) (multiplierWords x) → Words text (withMultipliers (m .multipliers ++ (x ∷ [])) m) w′
   unfolding wordBlocks
   more-multiplier-words {n = n} x c r e = record { exact = add-record (multiplier-words-lie (h .known)) (h .exact) x c (omega arith) (rw mul-one e); known = known-multipliers (h .known) (m .multipliers ++ (x ∷ [])) (more (h .known .multipliers) x c r tt) }
 
-  more-demand-words : {w′ : List ℕ} {n : ℕ} (x : Demand) → n ≡ length (m .demands) → n < roomDemands → SitsOr text (x .pattern) → w′ ≡ demandAdded w n x → Words text (withDemands (m .demands ++ (x ∷ [])) m) w′
+  more-demand-words : {w′ : List ℕ} {n : ℕ} (x : Demand) → n ≡ length (m .demands) → n < roomDemands → SitsOr text (x .pattern) → x .node < length (m .nodes) → (x .own ≡ true → getD (slots demandSlot 256 (m .demands)) (demandSlot x) 0 ≡ 0) → w′ ≡ demandAdded w n x → Words text (withDemands (m .demands ++ (x ∷ [])) m) w′
   unfolding wordBlocks
-  more-demand-words {n = n} x c r a e =
-      let xs : List Demand = m .demands ++ (x ∷ []) in
+  more-demand-words {n = n} x c r a inside free e =
       let p = more (h .known .demands) x c r a in
-      let g = demand-words-lie (h .known) in
-      let at : Slotted demandSlot (set (wordBlocks m) 6 (region demandWords 0 2560 xs)) 12 256 demandSlotsAt (m .demands) =
-      record { sizes = wordSizes; sized = sizes-kept g (h .exact) xs (omega (arith, p .bound)) ∙ word-sizes (h .known); start = refl; block = omega arith; is = refl } in
-      record { exact = add-slot at (add-record g (h .exact) x c (omega arith) refl) x c (omega arith) e; known = known-demands (h .known) xs p }
+      record {
+        exact = add-slotted (demand-words-lie (h .known)) (h .exact) demandSlot wordSizes (word-sizes (h .known)) 14 256 demandSlotsAt refl (omega arith) x refl c (omega arith) (omega arith) e;
+        known = known-demands (h .known) (m .demands ++ (x ∷ [])) p (owned-more (h .known .owned) x inside (h .known .nodes .bound) free);
+      }
 
   more-rule-words : {w′ : List ℕ} {n : ℕ} (x : Rule) → n ≡ length (m .rules) → n < roomRules → Sits text (x .id) → w′ ≡ splice w (rulesAt + n * ruleSize) (ruleWords x) → Words text (withRules (m .rules ++ (x ∷ [])) m) w′
   unfolding wordBlocks
@@ -169,28 +178,28 @@ module _ {text : List ℕ} {m : Network} {w : List ℕ} (h : Words text m w) whe
   unfolding wordBlocks
   kept-node-slots b i x0 x s = ap (λ (l : List ℕ). blocks (set (set (wordBlocks m) 0 b) 10 l)) (slots-same nodeSlot 615 (m .nodes) i x0 x s)
 
-  kept-demand-slots : (b : List ℕ) (i : ℕ) (x0 x : Demand) → demandSlot x ≡ demandSlot (getD (m .demands) i x0) → blocks (set (wordBlocks m) 6 b) ≡ blocks (set (set (wordBlocks m) 6 b) 12 (slots demandSlot 256 (set (m .demands) i x)))
+  kept-demand-slots : (b : List ℕ) (i : ℕ) (x0 x : Demand) → demandSlot x ≡ demandSlot (getD (m .demands) i x0) → blocks (set (wordBlocks m) 6 b) ≡ blocks (set (set (wordBlocks m) 6 b) 14 (slots demandSlot 256 (set (m .demands) i x)))
   unfolding wordBlocks
-  kept-demand-slots b i x0 x s = ap (λ (l : List ℕ). blocks (set (set (wordBlocks m) 6 b) 12 l)) (slots-same demandSlot 256 (m .demands) i x0 x s)
+  kept-demand-slots b i x0 x s = ap (λ (l : List ℕ). blocks (set (set (wordBlocks m) 6 b) 14 l)) (slots-same demandSlot 256 (m .demands) i x0 x s)
 
   part-node-words : {w′ : List ℕ} (i off : ℕ) (part : List ℕ) (x0 x : Node) → i < length (m .nodes) → off + length part ≤ nodeSize → NodeFine text x → nodeSlot x ≡ nodeSlot (getD (m .nodes) i x0) → nodeWords x ≡ splice (nodeWords (getD (m .nodes) i x0)) off part
       → w′ ≡ splice w (nodesAt + i * nodeSize + off) part → Words text (withNodes (set (m .nodes) i x) m) w′
   unfolding wordBlocks
-  part-node-words i off part x0 x hi hp a s q e = record { exact = change-part (node-words-lie (h .known)) (h .exact) i off part x0 x hi hp q e ∙ kept-node-slots (region nodeWords 0 2048 (set (m .nodes) i x)) i x0 x s; known = known-nodes (h .known) (set (m .nodes) i x) (other (h .known .nodes) i x a) }
+  part-node-words i off part x0 x hi hp a s q e = record { exact = change-part (node-words-lie (h .known)) (h .exact) i off part x0 x hi hp q e ∙ kept-node-slots (region nodeWords 0 2048 (set (m .nodes) i x)) i x0 x s; known = known-nodes (h .known) (set (m .nodes) i x) (other (h .known .nodes) i x a) (omega (arith, length-set (m .nodes) i x)) }
 
   alike-node-words : (i : ℕ) (x0 x : Node) → NodeFine text x → nodeSlot x ≡ nodeSlot (getD (m .nodes) i x0) → nodeWords x ≡ nodeWords (getD (m .nodes) i x0) → Words text (withNodes (set (m .nodes) i x) m) w
   unfolding wordBlocks
-  alike-node-words i x0 x a s q = record { exact = keep-record (node-words-lie (h .known)) (h .exact) i x0 x q refl ∙ kept-node-slots (region nodeWords 0 2048 (set (m .nodes) i x)) i x0 x s; known = known-nodes (h .known) (set (m .nodes) i x) (other (h .known .nodes) i x a) }
+  alike-node-words i x0 x a s q = record { exact = keep-record (node-words-lie (h .known)) (h .exact) i x0 x q refl ∙ kept-node-slots (region nodeWords 0 2048 (set (m .nodes) i x)) i x0 x s; known = known-nodes (h .known) (set (m .nodes) i x) (other (h .known .nodes) i x a) (omega (arith, length-set (m .nodes) i x)) }
 
   -- demand i becomes x, which differs from it in `part`; or is encoded alike
-  part-demand-words : {w′ : List ℕ} (i off : ℕ) (part : List ℕ) (x0 x : Demand) → i < length (m .demands) → off + length part ≤ demandSize → SitsOr text (x .pattern) → demandSlot x ≡ demandSlot (getD (m .demands) i x0) → demandWords x ≡ splice (demandWords (getD (m .demands) i x0)) off part
+  part-demand-words : {w′ : List ℕ} (i off : ℕ) (part : List ℕ) (x0 x : Demand) → i < length (m .demands) → off + length part ≤ demandSize → SitsOr text (x .pattern) → demandSlot x ≡ demandSlot (getD (m .demands) i noDemand) → (x .own ≡ true → getD (m .demands) i noDemand .own ≡ true) → demandWords x ≡ splice (demandWords (getD (m .demands) i x0)) off part
       → w′ ≡ splice w (demandsAt + i * demandSize + off) part → Words text (withDemands (set (m .demands) i x) m) w′
   unfolding wordBlocks
-  part-demand-words i off part x0 x hi hp a s q e = record { exact = change-part (demand-words-lie (h .known)) (h .exact) i off part x0 x hi hp q e ∙ kept-demand-slots (region demandWords 0 2560 (set (m .demands) i x)) i x0 x s; known = known-demands (h .known) (set (m .demands) i x) (other (h .known .demands) i x a) }
+  part-demand-words i off part x0 x hi hp a s was q e = record { exact = change-part (demand-words-lie (h .known)) (h .exact) i off part x0 x hi hp q e ∙ kept-demand-slots (region demandWords 0 2560 (set (m .demands) i x)) i noDemand x s; known = known-demands (h .known) (set (m .demands) i x) (other (h .known .demands) i x a) (owned-set (h .known .owned) i x s was) }
 
-  other-demand-words : {w′ : List ℕ} (i : ℕ) (x0 x : Demand) → i < length (m .demands) → SitsOr text (x .pattern) → demandSlot x ≡ demandSlot (getD (m .demands) i x0) → w′ ≡ splice w (demandsAt + i * demandSize) (demandWords x) → Words text (withDemands (set (m .demands) i x) m) w′
+  other-demand-words : {w′ : List ℕ} (i : ℕ) (x0 x : Demand) → i < length (m .demands) → SitsOr text (x .pattern) → demandSlot x ≡ demandSlot (getD (m .demands) i noDemand) → (x .own ≡ true → getD (m .demands) i noDemand .own ≡ true) → w′ ≡ splice w (demandsAt + i * demandSize) (demandWords x) → Words text (withDemands (set (m .demands) i x) m) w′
   unfolding wordBlocks
-  other-demand-words i x0 x hi a s e = record { exact = change-record (demand-words-lie (h .known)) (h .exact) i x0 x hi e ∙ kept-demand-slots (region demandWords 0 2560 (set (m .demands) i x)) i x0 x s; known = known-demands (h .known) (set (m .demands) i x) (other (h .known .demands) i x a) }
+  other-demand-words i x0 x hi a s was e = record { exact = change-record (demand-words-lie (h .known)) (h .exact) i x0 x hi e ∙ kept-demand-slots (region demandWords 0 2560 (set (m .demands) i x)) i noDemand x s; known = known-demands (h .known) (set (m .demands) i x) (other (h .known .demands) i x a) (owned-set (h .known .owned) i x s was) }
 
   other-time-words : {w′ : List ℕ} (i : ℕ) (x : Option ℕ) → i < 6 → w′ ≡ splice w (timesAt + i * timeSize) (countWords x) → Words text (withTimes (set (m .times) i x) m) w′
   unfolding wordBlocks
@@ -286,23 +295,23 @@ module _ {text : List ℕ} {m : Network} {s : Counts} {w : List ℕ} {f : List F
       → w′ ≡ linkAdded w n x → f′ ≡ splice f (linkNumbersAt + n * linkNumbersSize) (linkNumbers x) → Holds text (withLinks (m .links ++ (x ∷ [])) m) (countsOf (withLinks (m .links ++ (x ∷ [])) m)) w′ f′
   add-link x c r a ew ef = record { counts = refl; words = more-link-words (h .words) x c r a ew; numbers = more-link-numbers (h .words .known) (h .numbers) x c r ef }
 
-  pub add-curve : {w′ : List ℕ} {n : ℕ} (x : Name) → n ≡ length (m .curves) → n < roomCurves → Sits text x → w′ ≡ splice w (curvesAt + n * idSize) (idWords x) → Holds text (withCurves (m .curves ++ (x ∷ [])) m) (countsOf (withCurves (m .curves ++ (x ∷ [])) m)) w′ f
+  pub add-curve : {w′ : List ℕ} {n : ℕ} (x : Name) → n ≡ length (m .curves) → n < roomCurves → Sits text x → w′ ≡ curveAdded w n x → Holds text (withCurves (m .curves ++ (x ∷ [])) m) (countsOf (withCurves (m .curves ++ (x ∷ [])) m)) w′ f
   add-curve x c r a ew = record { counts = refl; words = more-curve-words (h .words) x c r a ew; numbers = curves-apart (h .numbers) (m .curves ++ (x ∷ [])) }
 
   pub add-point : {w′ : List ℕ} {f′ : List Float} {n : ℕ} (x : Point) → n ≡ length (m .points) → n < roomPoints
       → w′ ≡ splice w (pointsAt + n) (pointWords x) → f′ ≡ splice f (pointNumbersAt + n * pointNumbersSize) (pointNumbers x) → Holds text (withPoints (m .points ++ (x ∷ [])) m) (countsOf (withPoints (m .points ++ (x ∷ [])) m)) w′ f′
   add-point x c r ew ef = record { counts = refl; words = more-point-words (h .words) x c r ew; numbers = more-point-numbers (h .words .known) (h .numbers) x c r ef }
 
-  pub add-pattern : {w′ : List ℕ} {n : ℕ} (x : Name) → n ≡ length (m .patterns) → n < roomPatterns → Sits text x → w′ ≡ splice w (patternsAt + n * idSize) (idWords x) → Holds text (withPatterns (m .patterns ++ (x ∷ [])) m) (countsOf (withPatterns (m .patterns ++ (x ∷ [])) m)) w′ f
+  pub add-pattern : {w′ : List ℕ} {n : ℕ} (x : Name) → n ≡ length (m .patterns) → n < roomPatterns → Sits text x → w′ ≡ patternAdded w n x → Holds text (withPatterns (m .patterns ++ (x ∷ [])) m) (countsOf (withPatterns (m .patterns ++ (x ∷ [])) m)) w′ f
   add-pattern x c r a ew = record { counts = refl; words = more-pattern-words (h .words) x c r a ew; numbers = patterns-apart (h .numbers) (m .patterns ++ (x ∷ [])) }
 
   pub add-multiplier : {w′ : List ℕ} {f′ : List Float} {n : ℕ} (x : Multiplier) → n ≡ length (m .multipliers) → n < roomMultipliers
       → w′ ≡ splice w (multipliersAt + n) (multiplierWords x) → f′ ≡ splice f (multiplierNumbersAt + n) (multiplierNumbers x) → Holds text (withMultipliers (m .multipliers ++ (x ∷ [])) m) (countsOf (withMultipliers (m .multipliers ++ (x ∷ [])) m)) w′ f′
   add-multiplier x c r ew ef = record { counts = refl; words = more-multiplier-words (h .words) x c r ew; numbers = more-multiplier-numbers (h .words .known) (h .numbers) x c r ef }
 
-  pub add-demand : {w′ : List ℕ} {f′ : List Float} {n : ℕ} (x : Demand) → n ≡ length (m .demands) → n < roomDemands → SitsOr text (x .pattern)
-      → w′ ≡ demandAdded w n x → f′ ≡ splice f (demandNumbersAt + n) (demandNumbers x) → Holds text (withDemands (m .demands ++ (x ∷ [])) m) (countsOf (withDemands (m .demands ++ (x ∷ [])) m)) w′ f′
-  add-demand x c r a ew ef = record { counts = refl; words = more-demand-words (h .words) x c r a ew; numbers = more-demand-numbers (h .words .known) (h .numbers) x c r ef }
+  pub add-demand : {w′ : List ℕ} {f′ : List Float} {n : ℕ} (x : Demand) → n ≡ length (m .demands) → n < roomDemands → SitsOr text (x .pattern) → x .node < length (m .nodes)
+      → (x .own ≡ true → getD (slots demandSlot 256 (m .demands)) (demandSlot x) 0 ≡ 0) → w′ ≡ demandAdded w n x → f′ ≡ splice f (demandNumbersAt + n) (demandNumbers x) → Holds text (withDemands (m .demands ++ (x ∷ [])) m) (countsOf (withDemands (m .demands ++ (x ∷ [])) m)) w′ f′
+  add-demand x c r a inside free ew ef = record { counts = refl; words = more-demand-words (h .words) x c r a inside free ew; numbers = more-demand-numbers (h .words .known) (h .numbers) x c r ef }
 
   pub add-rule : {w′ : List ℕ} {n : ℕ} (x : Rule) → n ≡ length (m .rules) → n < roomRules → Sits text (x .id) → w′ ≡ splice w (rulesAt + n * ruleSize) (ruleWords x) → Holds text (withRules (m .rules ++ (x ∷ [])) m) (countsOf (withRules (m .rules ++ (x ∷ [])) m)) w′ f
   add-rule x c r a ew = record { counts = refl; words = more-rule-words (h .words) x c r a ew; numbers = rules-apart (h .numbers) (m .rules ++ (x ∷ [])) }
@@ -350,16 +359,16 @@ module _ {text : List ℕ} {m : Network} {s : Counts} {w : List ℕ} {f : List F
       record { counts = refl; words = part-node-words (h .words) i off part x0 x hi hp a s q ew; numbers = alike-node-numbers (h .words .known) (h .numbers) i x0 x qN }
 
   -- a demand overwritten, and one changed in some words alone
-  pub change-demand : {w′ : List ℕ} {f′ : List Float} (i : ℕ) (x0 x : Demand) → i < length (m .demands) → SitsOr text (x .pattern) → demandSlot x ≡ demandSlot (getD (m .demands) i x0)
+  pub change-demand : {w′ : List ℕ} {f′ : List Float} (i : ℕ) (x0 x : Demand) → i < length (m .demands) → SitsOr text (x .pattern) → demandSlot x ≡ demandSlot (getD (m .demands) i noDemand) → (x .own ≡ true → getD (m .demands) i noDemand .own ≡ true)
       → w′ ≡ splice w (demandsAt + i * demandSize) (demandWords x) → f′ ≡ splice f (demandNumbersAt + i) (demandNumbers x)
       → Holds text (withDemands (set (m .demands) i x) m) (countsOf (withDemands (set (m .demands) i x) m)) w′ f′
-  change-demand i x0 x hi a s ew ef = record { counts = refl; words = other-demand-words (h .words) i x0 x hi a s ew; numbers = other-demand-numbers (h .words .known) (h .numbers) i x0 x hi ef }
+  change-demand i x0 x hi a s was ew ef = record { counts = refl; words = other-demand-words (h .words) i x0 x hi a s was ew; numbers = other-demand-numbers (h .words .known) (h .numbers) i x0 x hi ef }
 
-  pub change-demand-words : {w′ : List ℕ} (i : ℕ) (x0 x : Demand) (off : ℕ) (part : List ℕ) → i < length (m .demands) → SitsOr text (x .pattern) → demandSlot x ≡ demandSlot (getD (m .demands) i x0)
+  pub change-demand-words : {w′ : List ℕ} (i : ℕ) (x0 x : Demand) (off : ℕ) (part : List ℕ) → i < length (m .demands) → SitsOr text (x .pattern) → demandSlot x ≡ demandSlot (getD (m .demands) i noDemand) → (x .own ≡ true → getD (m .demands) i noDemand .own ≡ true)
       → off + length part ≤ demandSize → demandWords x ≡ splice (demandWords (getD (m .demands) i x0)) off part → demandNumbers x ≡ demandNumbers (getD (m .demands) i x0)
       → w′ ≡ splice w (demandsAt + i * demandSize + off) part → Holds text (withDemands (set (m .demands) i x) m) (countsOf (withDemands (set (m .demands) i x) m)) w′ f
-  change-demand-words i x0 x off part hi a s hp q qN ew =
-      record { counts = refl; words = part-demand-words (h .words) i off part x0 x hi hp a s q ew; numbers = alike-demand-numbers (h .words .known) (h .numbers) i x0 x qN }
+  change-demand-words i x0 x off part hi a s was hp q qN ew =
+      record { counts = refl; words = part-demand-words (h .words) i off part x0 x hi hp a s was q ew; numbers = alike-demand-numbers (h .words .known) (h .numbers) i x0 x qN }
 
   -- a time overwritten
   pub set-time : {w′ : List ℕ} (i : ℕ) (x : Option ℕ) → i < 6 → w′ ≡ splice w (timesAt + i * timeSize) (countWords x) → Holds text (withTimes (set (m .times) i x) m) (countsOf (withTimes (set (m .times) i x) m)) w′ f

@@ -8,8 +8,8 @@ use lib.ListN.{length, length-append}
 use lib.Ieee.{Float}
 use Rattle.fields.specs.Fields.{Name}
 use Rattle.scope.specs.Records.{Network, Node, NodeKind, junction, reservoir, tank, Place, Link, LinkKind, pipe, pump, valve, Point, Multiplier, Demand, Rule, Clause, condition, action, zeroF}
-use Rattle.scope.specs.Tables.{region, blocks, flag, indexNo, idWords, nameWords, countWords, kindWords, kindNumbers, placed, placeNumbers, nodeWords, nodeNumbers, linkKindWords, linkNumbersOf, linkWords, linkNumbers, pointWords, pointNumbers, multiplierWords, multiplierNumbers, demandWords, demandNumbers, ruleWords, clauseWords, clauseNumbers, nodeSlot, linkSlot, demandSlot, wordBlocks, numberBlocks}
-use Rattle.tables.specs.Layout.{nodesAt, linksAt, curvesAt, pointsAt, patternsAt, multipliersAt, demandsAt, timesAt, rulesAt, clausesAt, nodeSlotsAt, linkSlotsAt, demandSlotsAt, nodeSize, linkSize, idSize, demandSize, timeSize, ruleSize, clauseSize, nodeNumbersAt, linkNumbersAt, pointNumbersAt, multiplierNumbersAt, demandNumbersAt, clauseNumbersAt, nodeNumbersSize, linkNumbersSize, pointNumbersSize}
+use Rattle.scope.specs.Tables.{region, blocks, flag, indexNo, idWords, nameWords, countWords, kindWords, kindNumbers, placed, placeNumbers, nodeWords, nodeNumbers, linkKindWords, linkNumbersOf, linkWords, linkNumbers, pointWords, pointNumbers, multiplierWords, multiplierNumbers, demandWords, demandNumbers, ruleWords, clauseWords, clauseNumbers, idSlot, nodeSlot, linkSlot, demandSlot, wordBlocks, numberBlocks}
+use Rattle.tables.specs.Layout.{nodesAt, linksAt, curvesAt, pointsAt, patternsAt, multipliersAt, demandsAt, timesAt, rulesAt, clausesAt, nodeSlotsAt, linkSlotsAt, curveSlotsAt, patternSlotsAt, demandSlotsAt, nodeSize, linkSize, idSize, demandSize, timeSize, ruleSize, clauseSize, nodeNumbersAt, linkNumbersAt, pointNumbersAt, multiplierNumbersAt, demandNumbersAt, clauseNumbersAt, nodeNumbersSize, linkNumbersSize, pointNumbersSize}
 use Rattle.tables.specs.Holding.{Known}
 use Rattle.tables.proofs.RegionLaws.{region-length}
 use Rattle.tables.proofs.SlotLaws.{slots-long}
@@ -76,7 +76,7 @@ clause-numbers-long (action a) = refl
 
 -- ---- regions
 abbrev pub wordSizes : List ℕ
-wordSizes = 2048 ∷ 2304 ∷ 192 ∷ 1024 ∷ 192 ∷ 2048 ∷ 2560 ∷ 12 ∷ 448 ∷ 3584 ∷ 615 ∷ 615 ∷ 256 ∷ []
+wordSizes = 2048 ∷ 2304 ∷ 192 ∷ 1024 ∷ 192 ∷ 2048 ∷ 2560 ∷ 12 ∷ 448 ∷ 3584 ∷ 615 ∷ 615 ∷ 615 ∷ 615 ∷ 256 ∷ []
 
 abbrev pub numberSizes : List ℕ
 numberSizes = 2048 ∷ 1024 ∷ 2048 ∷ 2048 ∷ 512 ∷ 512 ∷ []
@@ -98,6 +98,8 @@ module _ {text : List ℕ} {m : Network} (k : Known text m) where
         region-length clauseWords 0 7 3584 clause-long (m .clauses) (omega (arith, k .clauses .bound)),
         slots-long nodeSlot 615 (m .nodes),
         slots-long linkSlot 615 (m .links),
+        slots-long idSlot 615 (m .curves),
+        slots-long idSlot 615 (m .patterns),
         slots-long demandSlot 256 (m .demands),
       )
 
@@ -161,7 +163,15 @@ module _ {text : List ℕ} {m : Network} (k : Known text m) where
   unfolding wordBlocks
   link-slots-lie = record { sizes = wordSizes; sized = word-sizes; start = refl; block = omega arith; is = refl }
 
-  pub demand-slots-lie : Slotted demandSlot (wordBlocks m) 12 256 demandSlotsAt (m .demands)
+  pub curve-slots-lie : Slotted idSlot (wordBlocks m) 12 615 curveSlotsAt (m .curves)
+  unfolding wordBlocks
+  curve-slots-lie = record { sizes = wordSizes; sized = word-sizes; start = refl; block = omega arith; is = refl }
+
+  pub pattern-slots-lie : Slotted idSlot (wordBlocks m) 13 615 patternSlotsAt (m .patterns)
+  unfolding wordBlocks
+  pattern-slots-lie = record { sizes = wordSizes; sized = word-sizes; start = refl; block = omega arith; is = refl }
+
+  pub demand-slots-lie : Slotted demandSlot (wordBlocks m) 14 256 demandSlotsAt (m .demands)
   unfolding wordBlocks
   demand-slots-lie = record { sizes = wordSizes; sized = word-sizes; start = refl; block = omega arith; is = refl }
 

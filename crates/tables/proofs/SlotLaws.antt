@@ -28,9 +28,14 @@ pub mark-alike : {ss ts : List ℕ} {a b : ℕ} (v : ℕ) {r : List ℕ} → r �
 mark-alike v e p q = e ∙ rw (p, q)
 
 -- a slot that is taken stays
-mark-keeps : (x : ℕ) (ss : List ℕ) (at v h : ℕ) → getD ss at 0 ≡ x → 0 < getD ss h 0 → getD (markBy x ss at v) h 0 ≡ getD ss h 0
+pub mark-keeps : (x : ℕ) (ss : List ℕ) (at v h : ℕ) → getD ss at 0 ≡ x → 0 < getD ss h 0 → getD (markBy x ss at v) h 0 ≡ getD ss h 0
 mark-keeps zero ss at v h e p = getD-set-other ss at h v 0 (λ q. let z : getD ss h 0 ≡ 0 = ap (λ (k : ℕ). getD ss k 0) q ∙ e in omega (arith, z))
 mark-keeps (suc x) ss at v h e p = refl
+
+-- another slot stays
+pub mark-other : (x : ℕ) (ss : List ℕ) (at v h : ℕ) → (h ≡ at → ⊥) → getD (markBy x ss at v) h 0 ≡ getD ss h 0
+mark-other zero ss at v h n = getD-set-other ss at h v 0 n
+mark-other (suc x) ss at v h n = refl
 
 -- the slot that is marked is taken, by this place or by an earlier one
 mark-takes : (x : ℕ) (ss : List ℕ) (at i : ℕ) → getD ss at 0 ≡ x → at < length ss → x ≤ i → (0 < getD (markBy x ss at (suc i)) at 0) × (getD (markBy x ss at (suc i)) at 0 ≤ suc i)
@@ -49,7 +54,7 @@ mark-upto : (x : ℕ) (ss : List ℕ) (at i h : ℕ) → getD ss h 0 ≤ i → g
 mark-upto zero ss at i h p = set-upto ss at h (suc i) (suc i) (omega (arith, p)) (omega arith)
 mark-upto (suc x) ss at i h p = omega (arith, p)
 
-zero-at : (n h : ℕ) → getD {A = ℕ} (replicate n 0) h 0 ≡ 0
+pub zero-at : (n h : ℕ) → getD {A = ℕ} (replicate n 0) h 0 ≡ 0
 zero-at zero h = refl
 zero-at (suc n) zero = refl
 zero-at (suc n) (suc h) = zero-at n h

@@ -1,5 +1,5 @@
 -- Where a walk over the rows of a table may start: no row before has the slot that is looked for. Assumes nothing.
-use Prim.Native.Nat.{ℕ, _+_, _*_, _%_, _≤_, _<_}
+use Prim.Native.Nat.{ℕ, _+_, _*_, _≤_, _<_}
 use native.Mathlib.Omega.{arith}
 use mathlib.Core.Path.{_≡_, refl, sym, ap, _∙_}
 use mathlib.Core.Bool.{Bool, true, false}
@@ -8,15 +8,15 @@ use lib.ListN.{length, getD}
 use Rattle.letters.specs.Words.{same}
 use Rattle.letters.proofs.WordLaws.{same-equal}
 use Rattle.fields.specs.Fields.{Name}
-use Rattle.scope.specs.Records.{Network, noNode}
+use Rattle.scope.specs.Records.{Network, noName, noNode}
 use Rattle.scope.specs.Rules.{noLink}
-use Rattle.scope.specs.Tables.{keyOf, slots, slotOf, nodeSlot, linkSlot, demandSlot}
-use Rattle.tables.specs.Layout.{nodesAt, linksAt, demandsAt, nodeSize, linkSize, demandSize, nodeSlotsAt, linkSlotsAt, demandSlotsAt}
-use Rattle.tables.specs.Holding.{Words, OtherWords, OtherNames, NotInSlot, noDemand}
+use Rattle.scope.specs.Tables.{keyOf, slots, slotOf, idSlot, nodeSlot, linkSlot, demandSlot}
+use Rattle.tables.specs.Layout.{nodesAt, linksAt, curvesAt, patternsAt, nodeSize, linkSize, idSize, nodeSlotsAt, linkSlotsAt, curveSlotsAt, patternSlotsAt, demandSlotsAt}
+use Rattle.tables.specs.Holding.{Words, OtherNames, NotInSlot}
 use Rattle.tables.proofs.SlotLaws.{slots-first}
 use Rattle.tables.proofs.BlockLaws.{slot-word}
-use Rattle.tables.proofs.SizeLaws.{node-slots-lie, link-slots-lie, demand-slots-lie}
-use Rattle.tables.proofs.ReadLaws.{node-word, link-word, demand-word}
+use Rattle.tables.proofs.SizeLaws.{node-slots-lie, link-slots-lie, curve-slots-lie, pattern-slots-lie, demand-slots-lie}
+use Rattle.tables.proofs.ReadLaws.{node-word, link-word, curve-word, pattern-word}
 
 -- ---- the n slots of rs stand in w from `at` on
 module _ {R : Type 0} (slot : R → ℕ) (n : ℕ) (rs : List R) (r0 : R) (w : List ℕ) (at : ℕ)
@@ -51,10 +51,16 @@ module _ {text : List ℕ} {m : Network} {w : List ℕ} (h : Words text m w) whe
       named-before linkSlot 615 (m .links) noLink w linkSlotsAt (slot-word (link-slots-lie (h .known)) (h .exact)) (λ r. omega arith) text linksAt linkSize name slot b e
       (λ j hj. ap slotOf (link-word h j 2 noLink hj (omega arith)))
 
-  -- no demand before number b is the node's
-  pub demands-before : (node b : ℕ) → b ≤ length (m .demands) → NotInSlot (getD w (demandSlotsAt + node % 256) 0) b → OtherWords w demandsAt demandSize node 0 b
-  demands-before node b hb o j a l e =
-      let hj : j < length (m .demands) = omega arith in
-      let q : demandsAt + j * demandSize ≡ demandsAt + j * demandSize + 0 = omega arith in
-      let k : node ≡ getD (m .demands) j noDemand .node = sym e ∙ ap (λ (i : ℕ). getD w i 0) q ∙ demand-word h j 0 noDemand hj (omega arith) in
-      not-before demandSlot 256 (m .demands) noDemand w demandSlotsAt (slot-word (demand-slots-lie (h .known)) (h .exact)) (λ r. omega arith) j (node % 256) b hj (ap (λ (i : ℕ). i % 256) k) o l
+  pub curves-before : (name : List ℕ) (slot b : ℕ) → slot ≡ slotOf (keyOf name) → b ≤ length (m .curves) → NotInSlot (getD w (curveSlotsAt + slot) 0) b → OtherNames text w curvesAt idSize name b
+  curves-before name slot b e =
+      named-before idSlot 615 (m .curves) noName w curveSlotsAt (slot-word (curve-slots-lie (h .known)) (h .exact)) (λ r. omega arith) text curvesAt idSize name slot b e
+      (λ j hj. ap slotOf (curve-word h j 2 noName hj (omega arith)))
+
+  pub patterns-before : (name : List ℕ) (slot b : ℕ) → slot ≡ slotOf (keyOf name) → b ≤ length (m .patterns) → NotInSlot (getD w (patternSlotsAt + slot) 0) b → OtherNames text w patternsAt idSize name b
+  patterns-before name slot b e =
+      named-before idSlot 615 (m .patterns) noName w patternSlotsAt (slot-word (pattern-slots-lie (h .known)) (h .exact)) (λ r. omega arith) text patternsAt idSize name slot b e
+      (λ j hj. ap slotOf (pattern-word h j 2 noName hj (omega arith)))
+
+  -- what the slot of a junction holds
+  pub demand-slot : (i : ℕ) → i < 256 → getD w (demandSlotsAt + i) 0 ≡ getD (slots demandSlot 256 (m .demands)) i 0
+  demand-slot = slot-word (demand-slots-lie (h .known)) (h .exact)

@@ -1,10 +1,11 @@
--- The words after a node, a link or a demand more: its record is pasted, and its slot is marked. Assumes nothing.
+-- The words after a node, a link, a curve, a pattern or a demand more: its record is pasted, and its slot is marked. Assumes nothing.
 use Prim.Native.Nat.{ℕ, _+_, _*_}
 use mathlib.Core.List.{List}
+use Rattle.fields.specs.Fields.{Name}
 use Rattle.scope.specs.Records.{Node, Link, Demand}
-use Rattle.scope.specs.Tables.{marked, nodeWords, linkWords, demandWords, nodeSlot, linkSlot, demandSlot}
+use Rattle.scope.specs.Tables.{marked, idWords, nodeWords, linkWords, demandWords, idSlot, nodeSlot, linkSlot, demandSlot}
 use Rattle.tables.specs.Table.{splice}
-use Rattle.tables.specs.Layout.{nodesAt, linksAt, demandsAt, nodeSize, linkSize, demandSize, nodeSlotsAt, linkSlotsAt, demandSlotsAt}
+use Rattle.tables.specs.Layout.{nodesAt, linksAt, curvesAt, patternsAt, demandsAt, nodeSize, linkSize, idSize, demandSize, nodeSlotsAt, linkSlotsAt, curveSlotsAt, patternSlotsAt, demandSlotsAt}
 
 -- node number n
 abbrev pub nodeAdded : List ℕ → ℕ → Node → List ℕ
@@ -12,6 +13,12 @@ nodeAdded w n x = marked (splice w (nodesAt + n * nodeSize) (nodeWords x)) (node
 
 abbrev pub linkAdded : List ℕ → ℕ → Link → List ℕ
 linkAdded w n x = marked (splice w (linksAt + n * linkSize) (linkWords x)) (linkSlotsAt + linkSlot x) (n + 1)
+
+abbrev pub curveAdded : List ℕ → ℕ → Name → List ℕ
+curveAdded w n x = marked (splice w (curvesAt + n * idSize) (idWords x)) (curveSlotsAt + idSlot x) (n + 1)
+
+abbrev pub patternAdded : List ℕ → ℕ → Name → List ℕ
+patternAdded w n x = marked (splice w (patternsAt + n * idSize) (idWords x)) (patternSlotsAt + idSlot x) (n + 1)
 
 abbrev pub demandAdded : List ℕ → ℕ → Demand → List ℕ
 demandAdded w n x = marked (splice w (demandsAt + n * demandSize) (demandWords x)) (demandSlotsAt + demandSlot x) (n + 1)

@@ -12,7 +12,7 @@ pub use Rattle.fields.specs.Fields.{optIn, MayFit}
 use Rattle.scope.specs.Records.{Network, Node, NodeKind, junction, reservoir, tank, Link, LinkKind, pipe, pump, valve, Point, Multiplier, Demand, Rule, Clause, zeroF, countsOf, noName}
 use Rattle.scope.specs.Values.{Read, good, bad}
 use Rattle.scope.specs.Sections.{roomNodes, roomLinks, roomCurves, roomPoints, roomPatterns, roomMultipliers, roomDemands, roomRules, roomClauses}
-use Rattle.scope.specs.Tables.{keyOf, blocks, wordBlocks, numberBlocks}
+use Rattle.scope.specs.Tables.{keyOf, slots, demandSlot, blocks, wordBlocks, numberBlocks}
 use Rattle.scope.specs.declared.Counts.{Counts}
 use Rattle.scope.specs.declared.Found.{Found}
 use Rattle.scope.specs.declared.Found.the-variants.{At, Nowhere}
@@ -67,6 +67,15 @@ RuleFine text r = Sits text (r .id)
 abbrev pub ClauseFine : Clause → Type 0
 ClauseFine c = Unit
 
+-- what stands past the end of the demands
+abbrev pub noDemand : Demand
+noDemand = record { node = 0; own = false; base = zeroF; pattern = none; index = none }
+
+-- among n nodes and their demands: a demand of a junction's own line is the first in its slot, and no slot is taken for a node that is not there
+pub record Owned (n : ℕ) (ds : List Demand) : Type 0 where
+  pub first : (k : ℕ) → k < length ds → getD ds k noDemand .own ≡ true → getD (slots demandSlot 256 ds) (demandSlot (getD ds k noDemand)) 0 ≡ suc k
+  pub beyond : (h : ℕ) → n ≤ h → getD (slots demandSlot 256 ds) h 0 ≡ 0
+
 pub record Known (text : List ℕ) (m : Network) : Type 0 where
   pub nodes : Part (NodeFine text) roomNodes (m .nodes)
   pub links : Part (LinkFine text) roomLinks (m .links)
@@ -78,6 +87,7 @@ pub record Known (text : List ℕ) (m : Network) : Type 0 where
   pub times : length (m .times) ≡ 6
   pub rules : Part (RuleFine text) roomRules (m .rules)
   pub clauses : Part ClauseFine roomClauses (m .clauses)
+  pub owned : Owned (length (m .nodes)) (m .demands)
 
 -- ---- what the tables hold
 pub record Words (text : List ℕ) (m : Network) (w : List ℕ) : Type 0 where
@@ -122,15 +132,6 @@ pub record SomeRows (text w : List ℕ) (base stride count : ℕ) : Type 0 where
   pub long : count ≡ length names
   pub rows : Rows text w base stride names
 
--- ---- one word of each row: that of row i is at first + i * stride
--- those of `count` rows are in the table
-abbrev pub InTable : List ℕ → ℕ → ℕ → ℕ → Type 0
-InTable w first stride count = (j : ℕ) → j < count → first + j * stride < length w
-
--- those of the rows from number a on and before number b are others
-abbrev pub OtherWords : List ℕ → ℕ → ℕ → ℕ → ℕ → ℕ → Type 0
-OtherWords w first stride word a b = (j : ℕ) → a ≤ j → j < b → getD w (first + j * stride) 0 ≡ word → ⊥
-
 -- ---- where a walk may start
 -- the rows before number b have other names
 abbrev pub OtherNames : List ℕ → List ℕ → ℕ → ℕ → List ℕ → ℕ → Type 0
@@ -140,16 +141,17 @@ OtherNames text w base stride name b = (j : ℕ) → j < b → (n : Name) → Ro
 abbrev pub NotInSlot : ℕ → ℕ → Type 0
 NotInSlot v b = (j : ℕ) → j < b → 0 < v → v ≤ suc j → ⊥
 
+-- where it is a slot of one of `count` rows, the first of them is number b
+abbrev pub FirstInSlot : ℕ → ℕ → ℕ → Type 0
+FirstInSlot v count b = 0 < v → v ≤ count → suc b ≡ v
+
 -- ---- small things
 -- a place that was found is below n
 abbrev pub Below : ℕ → Found → Type 0
 Below n (At i) = i < n
 Below n Nowhere = Unit
 
--- what stands past the end of the demands, and of the rules
-abbrev pub noDemand : Demand
-noDemand = record { node = 0; own = false; base = zeroF; pattern = none; index = none }
-
+-- what stands past the end of the rules
 abbrev pub noRule : Rule
 noRule = record { id = noName; priority = none; first = 0; count = 0 }
 

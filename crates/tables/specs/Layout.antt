@@ -33,15 +33,21 @@ rulesAt = 10380
 abbrev pub clausesAt : ℕ
 clausesAt = 10828
 
--- the slots of nodes, links and demands
+-- the slots of nodes, links, curves, patterns and demands
 abbrev pub nodeSlotsAt : ℕ
 nodeSlotsAt = 14412
 
 abbrev pub linkSlotsAt : ℕ
 linkSlotsAt = 15027
 
+abbrev pub curveSlotsAt : ℕ
+curveSlotsAt = 15642
+
+abbrev pub patternSlotsAt : ℕ
+patternSlotsAt = 16257
+
 abbrev pub demandSlotsAt : ℕ
-demandSlotsAt = 15642
+demandSlotsAt = 16872
 
 abbrev pub nodeSize : ℕ
 nodeSize = 8

@@ -11,7 +11,7 @@ ghost use Rattle.scope.specs.Series.{placeIn};
 ghost use Rattle.scope.specs.Tables.{recordWords, keyOf, marked, slotOf, idWords, nameWords, flag, indexNo, pipeStatusNo, statusNo, typeNo, targetNo, comparisonNo, operatorNo, valueNo, valueNumber};
 ghost use Rattle.scope.specs.declared.Target.the-variants as target;
 ghost use Rattle.tables.specs.Table.{splice};
-ghost use Rattle.tables.specs.Holding.{optIn, Words, Row, Rows, SomeRow, SomeRows, InTable, OtherWords, OtherNames, NotInSlot, Below, isJunction};
+ghost use Rattle.tables.specs.Holding.{optIn, Words, Row, Rows, SomeRow, SomeRows, OtherNames, NotInSlot, FirstInSlot, Below, isJunction};
 use fields::Field;
 use fields::Span;
 use scope::Comparison;
@@ -55,9 +55,13 @@ pub const NODE_SLOTS: usize = 14412;
 
 pub const LINK_SLOTS: usize = 15027;
 
-pub const DEMAND_SLOTS: usize = 15642;
+pub const CURVE_SLOTS: usize = 15642;
 
-pub const RECORD_WORDS: usize = 15898;
+pub const PATTERN_SLOTS: usize = 16257;
+
+pub const DEMAND_SLOTS: usize = 16872;
+
+pub const RECORD_WORDS: usize = 17128;
 
 pub const NODE_WORDS: usize = 8;
 
@@ -161,7 +165,7 @@ pub fn name_key(name: &[u8]) -> u64
 
 // ---- slots: where a walk over the rows of a table may start
 
-// The slot of a node or a link among those of its table, by the key of its name.
+// The slot of a record among those of its table, by the key of its name.
 pub fn slot_of(key: u64) -> usize
     ensures { λ r. ⌜ r ≡ slotOf key ⌝ }
 {
@@ -181,7 +185,7 @@ pub fn mark(words: &mut [u64], at: usize, i: usize)
 // The first of `count` rows that has the slot at `at`; where none has it, past them all.
 pub fn first_in_slot(words: &[u64], at: usize, count: usize) -> usize
     requires { ⌜ at < length (now words) ⌝ }
-    ensures { λ r. ⌜ (r ≤ count) × NotInSlot (getD (now (words .entry)) at 0) r ⌝ }
+    ensures { λ r. ⌜ (r ≤ count) × NotInSlot (getD (now (words .entry)) at 0) r × FirstInSlot (getD (now (words .entry)) at 0) count r ⌝ }
 {
     let v = words[at] as usize;
     if v == 0 {
@@ -209,43 +213,6 @@ fn row_is(text: &[u8], words: &[u64], row: usize, key: u64, name: &[u8]) -> bool
     letters::equal(&text[a..e], name)
 }
 
-// The first row from number `from` on that may have the word: those before it have another at that place. Four are looked at in a turn, and where fewer are
-// left it stops. `first` is where the word of row 0 stands.
-pub fn next_with_word(
-    words: &[u64],
-    first: usize,
-    stride: usize,
-    from: usize,
-    count: usize,
-    word: u64,
-) -> usize
-    requires { ⌜ (from ≤ count) × InTable (now words) first stride count ⌝ }
-    ensures { λ r. ⌜ (from ≤ r) × (r ≤ count) × OtherWords (now (words .entry)) first stride word from r ⌝ }
-{
-    if count < 4 {
-        return from;
-    }
-    let last = count - 4; // the last one with three after it
-    let mut i = from;
-    while i <= last {
-        let at = first + i * stride;
-        if words[at] == word {
-            return i;
-        }
-        if words[at + stride] == word {
-            return i + 1;
-        }
-        if words[at + 2 * stride] == word {
-            return i + 2;
-        }
-        if words[at + 3 * stride] == word {
-            return i + 3;
-        }
-        i += 4;
-    }
-    i
-}
-
 // The first of `count` rows that has the name, which has the key; no row before number `from` has it.
 fn find_name(
     text: &[u8],
@@ -261,17 +228,14 @@ fn find_name(
     ensures { λ r. ⌜ ((ns : List Name) → count ≡ length ns → Rows (now (text .entry)) (now (words .entry)) base stride ns → r ≡ lookup ns (now (name .entry))) ⌝ }
 {
     let mut i = from;
-    loop {
-        i = next_with_word(words, base + 2, stride, i, count, key);
-        if count <= i {
-            return Found::Nowhere;
-        }
+    while i < count {
         let row = base + i * stride;
         if row_is(text, words, row, key, name) {
             return Found::At(i);
         }
         i += 1;
     }
+    Found::Nowhere
 }
 
 pub fn find_node(text: &[u8], words: &[u64], count: usize, name: &[u8]) -> Found
@@ -299,7 +263,9 @@ pub fn find_curve(text: &[u8], words: &[u64], count: usize, name: &[u8]) -> Foun
     ensures { λ r. ⌜ ((m : Network) → Words (now (text .entry)) m (now (words .entry)) → count ≡ length (m .curves) → r ≡ lookup (m .curves) (now (name .entry))) ⌝ }
 {
     let key = name_key(name);
-    find_name(text, words, CURVES, ID_WORDS, 0, count, key, name)
+    let slot = slot_of(key);
+    let from = first_in_slot(words, CURVE_SLOTS + slot, count);
+    find_name(text, words, CURVES, ID_WORDS, from, count, key, name)
 }
 
 pub fn find_pattern(text: &[u8], words: &[u64], count: usize, name: &[u8]) -> Found
@@ -307,7 +273,9 @@ pub fn find_pattern(text: &[u8], words: &[u64], count: usize, name: &[u8]) -> Fo
     ensures { λ r. ⌜ ((m : Network) → Words (now (text .entry)) m (now (words .entry)) → count ≡ length (m .patterns) → r ≡ lookup (m .patterns) (now (name .entry))) ⌝ }
 {
     let key = name_key(name);
-    find_name(text, words, PATTERNS, ID_WORDS, 0, count, key, name)
+    let slot = slot_of(key);
+    let from = first_in_slot(words, PATTERN_SLOTS + slot, count);
+    find_name(text, words, PATTERNS, ID_WORDS, from, count, key, name)
 }
 
 pub fn find_rule(text: &[u8], words: &[u64], count: usize, name: &[u8]) -> Found

@@ -6,7 +6,7 @@ use printing::records;
 use printing::write;
 use scope::Survey;
 
-const ROOM_WORDS: usize = 15907;
+const ROOM_WORDS: usize = 17137;
 
 const ROOM_NUMBERS: usize = 8192;
 

@@ -7,10 +7,10 @@ use Rattle.codes.proofs.has_room.Reads as reads
 use Rattle.codes.proofs.has_room.Lts as lts
 
 returns : tie.Need-returns
-returns c = rw (le-leb 15898 (length (now (c .before .args .words))) (c .if1 .taken))
+returns c = rw (le-leb 17128 (length (now (c .before .args .words))) (c .if1 .taken))
 
 returns-2 : tie.Need-returns-2
-returns-2 c = rw (lt-leb 15898 (length (now (c .before .args .words))) (c .if1 .left))
+returns-2 c = rw (lt-leb 17128 (length (now (c .before .args .words))) (c .if1 .left))
 
 pub has-room-spec : {M : Type 1} → statement M
 has-room-spec = tie.close (tie.spec returns returns-2)

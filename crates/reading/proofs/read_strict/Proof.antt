@@ -35,7 +35,7 @@ slice-relend-prefix-strict-in : tie.Need-slice-relend-prefix-strict-in
 slice-relend-prefix-strict-in c = let r = room (length (now (c .before .before .before .before .before .before .before .args .words))) (length (now (c .before .before .before .before .before .before .before .args .numbers))) (sym (c .before .too-small .ensures) ∙ c .if1 .left) in omega (arith, r .0)
 
 slice-aggregate-strict-in : tie.Need-slice-aggregate-strict-in
-slice-aggregate-strict-in c = let r = room (length (now (c .before .before .before .before .before .before .before .before .args .words))) (length (now (c .before .before .before .before .before .before .before .before .args .numbers))) (sym (c .before .before .too-small .ensures) ∙ c .before .if1 .left) in sym (length-take-le 15898 (now (c .before .before .before .before .before .before .before .before .args .words)) (omega (arith, r .0)))
+slice-aggregate-strict-in c = let r = room (length (now (c .before .before .before .before .before .before .before .before .args .words))) (length (now (c .before .before .before .before .before .before .before .before .args .numbers))) (sym (c .before .before .too-small .ensures) ∙ c .before .if1 .left) in sym (length-take-le 17128 (now (c .before .before .before .before .before .before .before .before .args .words)) (omega (arith, r .0)))
 
 slice-relend-prefix-strict-in-2 : tie.Need-slice-relend-prefix-strict-in-2
 slice-relend-prefix-strict-in-2 c = (room (length (now (c .before .before .before .before .before .before .before .before .args .words))) (length (now (c .before .before .before .before .before .before .before .before .args .numbers))) (sym (c .before .before .too-small .ensures) ∙ c .before .if1 .left)) .1
@@ -44,19 +44,19 @@ slice-aggregate-strict-in-2 : tie.Need-slice-aggregate-strict-in-2
 slice-aggregate-strict-in-2 c = sym (length-take-le 8192 (now (c .before .before .before .before .before .before .before .before .before .args .numbers)) ((room (length (now (c .before .before .before .before .before .before .before .before .before .args .words))) (length (now (c .before .before .before .before .before .before .before .before .before .args .numbers))) (sym (c .before .before .before .too-small .ensures) ∙ c .before .before .if1 .left)) .1))
 
 strict-in-requires : tie.Need-strict-in-requires
-strict-in-requires c κs = let r = room (length (now (c .before .before .before .before .before .before .before .before .before .args .words))) (length (now (c .before .before .before .before .before .before .before .before .before .args .numbers))) (sym (c .before .before .before .too-small .ensures) ∙ c .before .before .if1 .left) in (length-take-le 15898 (now (c .before .before .before .before .before .before .before .before .before .args .words)) (omega (arith, r .0)), length-take-le 8192 (now (c .before .before .before .before .before .before .before .before .before .args .numbers)) (r .1))
+strict-in-requires c κs = let r = room (length (now (c .before .before .before .before .before .before .before .before .before .args .words))) (length (now (c .before .before .before .before .before .before .before .before .before .args .numbers))) (sym (c .before .before .before .too-small .ensures) ∙ c .before .before .if1 .left) in (length-take-le 17128 (now (c .before .before .before .before .before .before .before .before .before .args .words)) (omega (arith, r .0)), length-take-le 8192 (now (c .before .before .before .before .before .before .before .before .before .args .numbers)) (r .1))
 
 write-counts-requires : tie.Need-write-counts-requires
 write-counts-requires c κs =
     let r = room (length (now (c .before .before .before .before .before .before .before .before .before .before .before .before .before .before .before .before .args .words))) (length (now (c .before .before .before .before .before .before .before .before .before .before .before .before .before .before .before .before .args .numbers))) (sym (c .before .before .before .before .before .before .before .before .before .before .too-small .ensures) ∙ c .before .before .before .before .before .before .before .before .before .if1 .left) in
-    let h : 15898 ≤ length (now (c .before .before .before .before .before .before .before .before .before .before .before .before .before .before .before .before .args .words)) = omega (arith, r .0) in
-    omega (arith, r .0, back-long (c .before .before .before .before .before .before .strict-in .last .1 .0) (now (c .before .before .before .before .before .before .before .before .before .before .before .before .before .before .before .before .args .words)) 15898 (holds-words (c .before .before .before .before .before .before .strict-in .ensures .1)) h)
+    let h : 17128 ≤ length (now (c .before .before .before .before .before .before .before .before .before .before .before .before .before .before .before .before .args .words)) = omega (arith, r .0) in
+    omega (arith, r .0, back-long (c .before .before .before .before .before .before .strict-in .last .1 .0) (now (c .before .before .before .before .before .before .before .before .before .before .before .before .before .before .before .before .args .words)) 17128 (holds-words (c .before .before .before .before .before .before .strict-in .ensures .1)) h)
 
 same-length-3 : tie.Need-same-length-3
 same-length-3 c =
     let r = room (length (now (c .before .before .before .before .before .before .before .before .before .before .before .before .before .before .before .before .before .before .before .before .args .words))) (length (now (c .before .before .before .before .before .before .before .before .before .before .before .before .before .before .before .before .before .before .before .before .args .numbers))) (sym (c .before .before .before .before .before .before .before .before .before .before .before .before .before .before .too-small .ensures) ∙ c .before .before .before .before .before .before .before .before .before .before .before .before .before .if1 .left) in
-    let h : 15898 ≤ length (now (c .before .before .before .before .before .before .before .before .before .before .before .before .before .before .before .before .before .before .before .before .args .words)) = omega (arith, r .0) in
-    c .before .before .before .write-counts .kept .0 ∙ back-long (c .before .before .before .before .before .before .before .before .before .before .strict-in .last .1 .0) (now (c .before .before .before .before .before .before .before .before .before .before .before .before .before .before .before .before .before .before .before .before .args .words)) 15898 (holds-words (c .before .before .before .before .before .before .before .before .before .before .strict-in .ensures .1)) h
+    let h : 17128 ≤ length (now (c .before .before .before .before .before .before .before .before .before .before .before .before .before .before .before .before .before .before .before .before .args .words)) = omega (arith, r .0) in
+    c .before .before .before .write-counts .kept .0 ∙ back-long (c .before .before .before .before .before .before .before .before .before .before .strict-in .last .1 .0) (now (c .before .before .before .before .before .before .before .before .before .before .before .before .before .before .before .before .before .before .before .before .args .words)) 17128 (holds-words (c .before .before .before .before .before .before .before .before .before .before .strict-in .ensures .1)) h
 
 same-length-4 : tie.Need-same-length-4
 same-length-4 c =

@@ -25,7 +25,7 @@ looked c = λ m w e. ap (lookup (linkIds m)) (sym (c .before .before .before .be
 below : (c : tie.After-known-told) → (m : Network) → Words (now (c .before .before .before .before .before .before .before .before .before .before .args .text)) m (now (c .before .before .before .before .before .before .before .before .before .before .args .words)) → c .before .before .before .before .before .before .before .before .before .before .args .links ≡ length (m .links) → (c .before .found .given .0 .0) < length (m .links)
 below c = λ m w e. omega (arith, found-below (linkIds m) _ (looked c m w e), link-count m)
 
-safe : (c : tie.After-known-told) → ((c .before .found .given .0 .0) < 256) × (length (now (c .before .before .before .before .before .before .before .before .before .before .args .words)) ≡ 15898)
+safe : (c : tie.After-known-told) → ((c .before .found .given .0 .0) < 256) × (length (now (c .before .before .before .before .before .before .before .before .before .before .args .words)) ≡ 17128)
 safe c = (omega (arith, below c (c .before .before .before .before .before .before .before .before .before .before .pre .0) (c .before .before .before .before .before .before .before .before .before .before .pre .1) (c .before .before .before .before .before .before .before .before .before .before .pre .2), c .before .before .before .before .before .before .before .before .before .before .pre .1 .known .links .bound), words-long (c .before .before .before .before .before .before .before .before .before .before .pre .1))
 
 letters-of-requires : tie.Need-letters-of-requires

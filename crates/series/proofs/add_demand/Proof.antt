@@ -53,7 +53,7 @@ same-length-2 c = search needs
 returns : tie.Need-returns
 returns c = λ m h.
     let a = c .before .before .before .before .before .before .before .before .before .before .before .before .before .before .before .before .before .before .before .args in
-    appended h (a .d .base) (a .d .pattern) (a .node) _ _ (look (c .before .before .before .before .before .before .before .before .before .before .before .before .before .before) m h ∙ c .before .before .before .before .before .before .before .before .before .before .before .before .enum-told .given .1) (c .before .before .before .before .before .before .before .before .before .before .before .before .before .before .before .before .before .before .before .pre .1) (c .before .before .before .before .before .before .before .before .before .before .before .if1 .taken)
+    appended h (a .d .base) (a .d .pattern) (a .node) _ _ (look (c .before .before .before .before .before .before .before .before .before .before .before .before .before .before) m h ∙ c .before .before .before .before .before .before .before .before .before .before .before .before .enum-told .given .1) (c .before .before .before .before .before .before .before .before .before .before .before .before .before .before .before .before .before .before .before .pre .1) (c .before .before .before .before .before .before .before .before .before .before .before .before .before .before .before .before .before .before .before .pre .2) (c .before .before .before .before .before .before .before .before .before .before .before .if1 .taken)
     (mark-alike (a .s .demands + 1) (c .before .before .mark .ensures) (c .before .before .before .before .before .before .before .before .put-demand2 .ensures .0) refl)
     (c .before .before .before .before .before .before .before .before .put-demand2 .ensures .1)
 

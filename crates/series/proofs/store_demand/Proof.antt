@@ -39,7 +39,11 @@ is-junction-requires c κs =
     (omega (arith, node-below h (c .before .before .before .before .before .before .before .before .before .before .args .d .base) (c .before .before .before .before .before .before .before .before .before .before .args .d .pattern) (c .before .before .before .before .before .before .before .before .before .before .args .d .id) _ (look (c .before .before .before .before) (c .before .before .before .before .before .before .before .before .before .before .pre .0 .m) h ∙ c .before .before .found .given .1), h .words .known .nodes .bound), holds-words h)
 
 add-demand-requires : tie.Need-add-demand-requires
-add-demand-requires c κs = (c .before .before .before .before .before .before .before .before .before .before .before .before .before .before .pre .0, c .before .before .before .before .before .before .before .before .before .before .before .before .before .before .pre .2)
+add-demand-requires c κs =
+    let p = c .before .before .before .before .before .before .before .before .before .before .before .before .before .before .pre in
+    let a = c .before .before .before .before .before .before .before .before .before .before .before .before .before .before .args in
+    let h = p .0 .holds in
+    (p .0, p .2, omega (arith, node-below h (a .d .base) (a .d .pattern) (a .d .id) _ (look (c .before .before .before .before .before .before .before .before) (p .0 .m) h ∙ c .before .before .before .before .before .before .found .given .1), count-nodes h))
 
 same-length-2 : tie.Need-same-length-2
 same-length-2 c = search needs

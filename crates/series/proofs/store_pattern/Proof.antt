@@ -1,23 +1,19 @@
 -- `series::store_pattern` meets its contract. Assumes nothing.
-use Prim.Native.Nat.{ℕ, _+_, _*_, _≤_}
+use Prim.Native.Nat.{_+_, _≤_}
 use native.Mathlib.Omega.{arith}
 use denote.Ref.{now}
 use mathlib.Core.Path.{_≡_, sym, ap, _∙_}
 use mathlib.Core.List.{List}
 use lib.ListN.{length}
 use lib.Ieee.{Float}
-use Rattle.fields.specs.Fields.{fieldsAt, nameIn, part}
+use Rattle.fields.specs.Fields.{fieldsAt, part}
 use Rattle.scope.specs.Records.{Network, lookup}
 use Rattle.scope.specs.Sections.{roomMultipliers}
-use Rattle.scope.specs.Tables.{idWords}
 use Rattle.scope.specs.Values.{good}
 use Rattle.scope.specs.Series.{multipliersOf}
-use Rattle.tables.specs.Table.{splice}
-use Rattle.tables.specs.Layout.{patternsAt, idSize}
 use Rattle.tables.specs.Holding.{Holds}
 use Rattle.tables.proofs.HoldLaws.{count-patterns, bound-multipliers}
 use Rattle.tables.proofs.AfterLaws.{holds-words, holds-numbers}
-use Rattle.series.proofs.StepLaws.{pasted-long}
 use Rattle.series.proofs.PatternStoreLaws.{values-le, one-read, values-full, patterns-full, goes-on, starts}
 use borrow.Author.Needs.{needs}
 use Rattle.series.proofs.store_pattern.Statement.{statement}
@@ -59,23 +55,15 @@ put-multipliers-requires c κs = (c .before .before .before .before .before .bef
 enum-told : tie.Need-enum-told
 enum-told c = search needs
 
-id-words-requires : tie.Need-id-words-requires
-id-words-requires c κs = search needs
-
-mul-paste-words : tie.Need-mul-paste-words
-mul-paste-words c = search needs
-
-add-paste-words : tie.Need-add-paste-words
-add-paste-words c = search needs
-
-slice-aggregate-paste-words : tie.Need-slice-aggregate-paste-words
-slice-aggregate-paste-words c = search needs
-
-paste-words-requires : tie.Need-paste-words-requires
-paste-words-requires c κs = omega (arith, c .before .before .before .if2 .taken, holds-words (c .before .before .before .before .before .before .before .before .before .before .before .before .before .before .before .pre .0 .holds), ap length (c .before .before .id-words .ensures))
+put-id-requires : tie.Need-put-id-requires
+put-id-requires c κs = (c .before .if2 .taken, omega arith, omega arith, holds-words (c .before .before .before .before .before .before .before .before .before .before .before .before .before .pre .0 .holds))
 
 put-multipliers-requires-2 : tie.Need-put-multipliers-requires-2
-put-multipliers-requires-2 c κs = (c .before .before .before .before .before .before .before .before .before .before .before .before .before .before .before .before .before .before .before .before .pre .2 .0, c .before .before .before .before .before .before .before .before .before .before .before .before .before .before .before .before .before .before .before .before .pre .2 .1, fit (c .before .before .before .before .before .before .before .before .before .before .before), pasted-long _ (now (c .before .before .before .before .before .before .before .before .before .before .before .before .before .before .before .before .before .before .before .before .args .words)) (patternsAt + c .before .before .before .before .before .before .before .before .before .before .before .before .before .before .before .before .before .before .before .before .args .s .patterns * idSize) (idWords (nameIn (now (c .before .before .before .before .before .before .before .before .before .before .before .before .before .before .before .before .before .before .before .before .args .text)) (c .before .before .before .before .before .before .before .before .before .before .before .before .before .before .before .before .before .before .before .before .args .p .id))) (c .before .before .before .before .paste-words .ensures ∙ ap (λ (l : List ℕ). splice (now (c .before .before .before .before .before .before .before .before .before .before .before .before .before .before .before .before .before .before .before .before .args .words)) (patternsAt + c .before .before .before .before .before .before .before .before .before .before .before .before .before .before .before .before .before .before .before .before .args .s .patterns * idSize) l) (c .before .before .before .before .before .before .before .id-words .ensures)) (omega (arith, c .before .before .before .before .before .before .before .before .if2 .taken, holds-words (c .before .before .before .before .before .before .before .before .before .before .before .before .before .before .before .before .before .before .before .before .pre .0 .holds))) (holds-words (c .before .before .before .before .before .before .before .before .before .before .before .before .before .before .before .before .before .before .before .before .pre .0 .holds)), holds-numbers (c .before .before .before .before .before .before .before .before .before .before .before .before .before .before .before .before .before .before .before .before .pre .0 .holds))
+put-multipliers-requires-2 c κs =
+    let p = c .before .before .before .before .before .before .before .before .before .before .before .before .before .before .before .before .before .before .pre in
+    let h = p .0 .holds in
+    let long : length (c .before .before .before .before .put-id .last .1 .1 .1 .1 .1 .0) ≡ length (now (c .before .before .before .before .before .before .before .before .before .before .before .before .before .before .before .before .before .before .args .words)) = c .before .before .before .before .put-id .kept .1 .1 .1 .1 .1 .0 in
+    (p .2 .0, p .2 .1, fit (c .before .before .before .before .before .before .before .before .before), long ∙ holds-words h, holds-numbers h)
 
 add-t-2 : tie.Need-add-t-2
 add-t-2 c = search needs
@@ -88,9 +76,11 @@ same-length-3 c = search needs
 
 returns-2 : tie.Need-returns-2
 returns-2 c =
-    λ m xs h e. rw (← counted (c .before .before .before .before .before .before .before .before .before .before .before .before .before .before .before .before .before .before .before .before .before .before .before .before .before) xs e)
-    (starts h (c .before .before .before .before .before .before .before .before .before .before .before .before .before .before .before .before .before .before .before .before .before .before .before .before .before .args .p .id) xs (omega (arith, counted (c .before .before .before .before .before .before .before .before .before .before .before .before .before .before .before .before .before .before .before .before .before .before .before .before .before) xs e, c .before .before .before .before .before .before .before .before .before .before .before .before .before .before .before .before .if1 .left)) _ _ _ (look (c .before .before .before .before .before .before .before .before .before .before .before .before .before .before .before .before .before) m h ∙ c .before .before .before .before .before .before .before .before .before .before .before .before .before .before .enum-told .given .1)
-    (c .before .before .before .before .before .before .before .before .before .before .before .before .before .before .before .before .before .before .before .before .before .before .before .before .before .pre .1) (c .before .before .before .before .before .before .before .before .before .before .before .before .before .if2 .taken) (c .before .before .before .before .before .before .before .before .before .paste-words .ensures ∙ ap (λ (l : List ℕ). splice (now (c .before .before .before .before .before .before .before .before .before .before .before .before .before .before .before .before .before .before .before .before .before .before .before .before .before .args .words)) (patternsAt + c .before .before .before .before .before .before .before .before .before .before .before .before .before .before .before .before .before .before .before .before .before .before .before .before .before .args .s .patterns * idSize) l) (c .before .before .before .before .before .before .before .before .before .before .before .before .id-words .ensures)) (c .before .before .before .before .put-multipliers2 .ensures xs e .0) (c .before .before .before .before .put-multipliers2 .ensures xs e .1))
+    λ m xs h e. let s = c .before .before .before .before .before .before .before .before .before .before .before .before .before .before .before .before .before .before .before .before .before .before .before in
+    let n = counted s xs e in
+    rw (← n)
+    (starts h (s .args .p .id) xs (omega (arith, n, c .before .before .before .before .before .before .before .before .before .before .before .before .before .before .if1 .left)) _ _ _ (look (c .before .before .before .before .before .before .before .before .before .before .before .before .before .before .before) m h ∙ c .before .before .before .before .before .before .before .before .before .before .before .before .enum-told .given .1) (s .pre .1) (c .before .before .before .before .before .before .before .before .before .before .before .if2 .taken)
+    (c .before .before .before .before .before .before .before .before .before .put-id .ensures) (c .before .before .before .before .put-multipliers2 .ensures xs e .0) (c .before .before .before .before .put-multipliers2 .ensures xs e .1))
 
 same-length-4 : tie.Need-same-length-4
 same-length-4 c = search needs
@@ -123,11 +113,7 @@ store-pattern-spec =
     enum-known-found
     put-multipliers-requires
     enum-told
-    id-words-requires
-    mul-paste-words
-    add-paste-words
-    slice-aggregate-paste-words
-    paste-words-requires
+    put-id-requires
     put-multipliers-requires-2
     add-t-2
     same-length-2

@@ -1,19 +1,13 @@
 -- `series::store_point` meets its contract. Assumes nothing.
-use Prim.Native.Nat.{ℕ, _+_, _*_}
 use native.Mathlib.Omega.{arith}
 use denote.Ref.{now}
 use mathlib.Core.Path.{_≡_, sym, ap, _∙_}
-use mathlib.Core.List.{List}
 use lib.ListN.{length}
-use Rattle.fields.specs.Fields.{nameIn, part}
+use Rattle.fields.specs.Fields.{part}
 use Rattle.scope.specs.Records.{Network, lookup}
-use Rattle.scope.specs.Tables.{idWords}
-use Rattle.tables.specs.Table.{splice}
-use Rattle.tables.specs.Layout.{curvesAt, idSize}
 use Rattle.tables.specs.Holding.{Holds}
 use Rattle.tables.proofs.HoldLaws.{count-curves, count-points, bound-points}
 use Rattle.tables.proofs.AfterLaws.{holds-words, holds-numbers}
-use Rattle.series.proofs.StepLaws.{pasted-long}
 use Rattle.series.proofs.CurveLaws.{curves-full, no-room, starts, falling, points-full, goes-on}
 use borrow.Author.Needs.{needs}
 use Rattle.series.proofs.store_point.Statement.{statement}
@@ -61,23 +55,14 @@ returns-2 c = λ m h. goes-on h (c .before .before .before .before .before .befo
 enum-told : tie.Need-enum-told
 enum-told c = search needs
 
-id-words-requires : tie.Need-id-words-requires
-id-words-requires c κs = search needs
-
-mul-paste-words : tie.Need-mul-paste-words
-mul-paste-words c = search needs
-
-add-paste-words : tie.Need-add-paste-words
-add-paste-words c = search needs
-
-slice-aggregate-paste-words : tie.Need-slice-aggregate-paste-words
-slice-aggregate-paste-words c = search needs
-
-paste-words-requires : tie.Need-paste-words-requires
-paste-words-requires c κs = omega (arith, c .before .before .before .before .if3 .taken, holds-words (c .before .before .before .before .before .before .before .before .before .before .before .before .before .before .pre .0 .holds), ap length (c .before .before .id-words .ensures))
+put-id-requires : tie.Need-put-id-requires
+put-id-requires c κs = (c .before .before .if3 .taken, omega arith, omega arith, holds-words (c .before .before .before .before .before .before .before .before .before .before .before .before .pre .0 .holds))
 
 put-point-requires-2 : tie.Need-put-point-requires-2
-put-point-requires-2 c κs = (c .before .before .before .before .before .before .before .before .if4 .taken, pasted-long _ (now (c .before .before .before .before .before .before .before .before .before .before .before .before .before .before .before .before .before .before .before .args .words)) (curvesAt + c .before .before .before .before .before .before .before .before .before .before .before .before .before .before .before .before .before .before .before .args .s .curves * idSize) (idWords (nameIn (now (c .before .before .before .before .before .before .before .before .before .before .before .before .before .before .before .before .before .before .before .args .text)) (c .before .before .before .before .before .before .before .before .before .before .before .before .before .before .before .before .before .before .before .args .p .id))) (c .before .before .before .before .paste-words .ensures ∙ ap (λ (l : List ℕ). splice (now (c .before .before .before .before .before .before .before .before .before .before .before .before .before .before .before .before .before .before .before .args .words)) (curvesAt + c .before .before .before .before .before .before .before .before .before .before .before .before .before .before .before .before .before .before .before .args .s .curves * idSize) l) (c .before .before .before .before .before .before .before .id-words .ensures)) (omega (arith, c .before .before .before .before .before .before .before .before .before .if3 .taken, holds-words (c .before .before .before .before .before .before .before .before .before .before .before .before .before .before .before .before .before .before .before .pre .0 .holds))) (holds-words (c .before .before .before .before .before .before .before .before .before .before .before .before .before .before .before .before .before .before .before .pre .0 .holds)), holds-numbers (c .before .before .before .before .before .before .before .before .before .before .before .before .before .before .before .before .before .before .before .pre .0 .holds))
+put-point-requires-2 c κs =
+    let h = c .before .before .before .before .before .before .before .before .before .before .before .before .before .before .before .before .before .pre .0 .holds in
+    let long : length (c .before .before .before .before .put-id .last .1 .1 .1 .1 .1 .0) ≡ length (now (c .before .before .before .before .before .before .before .before .before .before .before .before .before .before .before .before .before .args .words)) = c .before .before .before .before .put-id .kept .1 .1 .1 .1 .1 .0 in
+    (c .before .before .before .before .before .before .if4 .taken, long ∙ holds-words h, holds-numbers h)
 
 add-t-2 : tie.Need-add-t-2
 add-t-2 c = search needs
@@ -89,7 +74,10 @@ same-length-6 : tie.Need-same-length-6
 same-length-6 c = search needs
 
 returns-3 : tie.Need-returns-3
-returns-3 c = λ m h. starts h (c .before .before .before .before .before .before .before .before .before .before .before .before .before .before .before .before .before .before .before .before .before .before .before .before .args .p .id) (c .before .before .before .before .before .before .before .before .before .before .before .before .before .before .before .before .before .before .before .before .before .before .before .before .args .p .x) (c .before .before .before .before .before .before .before .before .before .before .before .before .before .before .before .before .before .before .before .before .before .before .before .before .args .p .y) _ _ _ (look (c .before .before .before .before .before .before .before .before .before .before .before .before .before .before .before .before .before) m h ∙ c .before .before .before .before .before .before .before .before .before .before .before .before .before .before .before .enum-told .given .1) (c .before .before .before .before .before .before .before .before .before .before .before .before .before .before .before .before .before .before .before .before .before .before .before .before .pre .1) (c .before .before .before .before .before .before .before .before .before .before .before .before .before .before .if3 .taken) (c .before .before .before .before .before .before .before .before .before .before .before .before .before .if4 .taken) (c .before .before .before .before .before .before .before .before .before .paste-words .ensures ∙ ap (λ (l : List ℕ). splice (now (c .before .before .before .before .before .before .before .before .before .before .before .before .before .before .before .before .before .before .before .before .before .before .before .before .args .words)) (curvesAt + c .before .before .before .before .before .before .before .before .before .before .before .before .before .before .before .before .before .before .before .before .before .before .before .before .args .s .curves * idSize) l) (c .before .before .before .before .before .before .before .before .before .before .before .before .id-words .ensures)) (c .before .before .before .before .put-point2 .ensures .0) (c .before .before .before .before .put-point2 .ensures .1)
+returns-3 c = λ m h.
+    let a = c .before .before .before .before .before .before .before .before .before .before .before .before .before .before .before .before .before .before .before .before .before .before .args in
+    starts h (a .p .id) (a .p .x) (a .p .y) _ _ _ (look (c .before .before .before .before .before .before .before .before .before .before .before .before .before .before .before) m h ∙ c .before .before .before .before .before .before .before .before .before .before .before .before .before .enum-told .given .1) (c .before .before .before .before .before .before .before .before .before .before .before .before .before .before .before .before .before .before .before .before .before .before .pre .1) (c .before .before .before .before .before .before .before .before .before .before .before .before .if3 .taken) (c .before .before .before .before .before .before .before .before .before .before .before .if4 .taken)
+    (c .before .before .before .before .before .before .before .before .before .put-id .ensures) (c .before .before .before .before .put-point2 .ensures .0) (c .before .before .before .before .put-point2 .ensures .1)
 
 same-length-7 : tie.Need-same-length-7
 same-length-7 c = search needs
@@ -129,11 +117,7 @@ store-point-spec =
     same-length-4
     returns-2
     enum-told
-    id-words-requires
-    mul-paste-words
-    add-paste-words
-    slice-aggregate-paste-words
-    paste-words-requires
+    put-id-requires
     put-point-requires-2
     add-t-2
     same-length-5
