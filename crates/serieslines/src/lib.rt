@@ -5,6 +5,7 @@ ghost use Rattle.serieslines.specs.Lines.{pointOf, PointAs, CountedAs, p
 use fields::Field;
 use fields::Span;
 use scope::Reason;
+use takers::NextNumber;
 use takers::TookNumber;
 
 pub struct PointLine {
@@ -72,11 +73,11 @@ fn count_multipliers(l: &[u8], at: usize) -> Counted
     let mut n: usize = 0;
     let mut p = at;
     loop {
-        let f = fields::next_field(l, p);
-        let Field::Taken(s) = f else {
+        let f = takers::next_number(l, p);
+        let NextNumber::Is(number, end) = f else {
             return Counted::Count(n);
         };
-        let t = takers::as_number(decimals::read_number(fields::letters_of(l, s)), s.end);
+        let t = takers::as_number(number, end);
         match t {
             TookNumber::Number(_, next) => {
                 n += 1;

@@ -31,7 +31,7 @@ pub fn as_number(n: Number, next: usize) -> TookNumber
 }
 
 // What number the next field is, and where it ends.
-enum NextNumber {
+pub enum NextNumber {
     Is(Number, usize),
     Missing,
 }
@@ -47,7 +47,7 @@ fn read_next(l: &[u8], at: usize) -> NextNumber
 }
 
 // Most numbers are plain, and read while they are scanned.
-fn next_number(l: &[u8], at: usize) -> NextNumber
+pub fn next_number(l: &[u8], at: usize) -> NextNumber
     ensures { λ r. ⌜ Numbered (now (l .entry)) at r ⌝ }
 {
     let start = fields::field_start(l, at);
