@@ -8,8 +8,8 @@ use lib.ListN.{length, drop, getD, drop-of-length-le}
 use lib.Seq.{drop-cons}
 use lib.Dec.{eqb}
 use borrow.Author.Tests.{eq-eqb, ne-eqb, le-leb, lt-leb}
-use Rattle.decimals.specs.declared.Count.the-variants.{Whole, Uncounted}
-use Rattle.decimals.specs.Counts.{countOf}
+use Rattle.counts.specs.declared.Count.the-variants.{Whole, Uncounted}
+use Rattle.counts.specs.Counts.{countOf}
 use Rattle.letters.specs.Words.{spelled}
 use Rattle.clock.specs.declared.Time.the-variants.{Seconds, Malformed, Beyond}
 use Rattle.clock.specs.Times.{colonAt, wordAM, wordPM, hourOf, colonForm}

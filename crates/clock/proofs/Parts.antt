@@ -4,7 +4,7 @@ use native.Mathlib.Omega.{arith}
 use mathlib.Core.Path.{_≡_}
 use mathlib.Core.List.{List}
 use lib.ListN.{length, take, drop, length-take}
-use Rattle.decimals.proofs.Reading.{tail-of}
+use Rattle.digits.proofs.Lists.{tail-of}
 
 pub start-length : (s : List ℕ) (n : ℕ) → n ≤ length s → n ≡ length (take n s)
 start-length s n h = omega (arith, length-take n s)

@@ -6,7 +6,7 @@ use lib.ListN.{length, take, drop}
 use borrow.Author.Tests.{lt-ltb, le-ltb}
 use Rattle.decimals.specs.declared.Number.{Number}
 use Rattle.decimals.specs.Numbers.{numberOf}
-use Rattle.decimals.proofs.Reading.{tail-of}
+use Rattle.digits.proofs.Lists.{tail-of}
 use Rattle.clock.specs.declared.Time.{Time}
 use Rattle.clock.specs.Times.{colonAt, beforeColon, colonForm, numberForm, unitOf, timeOf}
 use Rattle.clock.proofs.Choice.{chosen, passed}

@@ -5,7 +5,7 @@ use Prim.Native.Nat.{ℕ}
 use lib.Ieee.{mul, ofInt, div, neg}
 use Rattle.decimals.specs.Numbers.{numberOf}
 use Rattle.decimals.specs.Reach.{meaning}
-use Rattle.decimals.specs.Counts.{countOf}
+use Rattle.counts.specs.Counts.{countOf}
 use Rattle.letters.specs.Words.{same}
 use Rattle.clock.specs.declared.Time.{Time}
 use Rattle.clock.specs.declared.Time.the-variants.{Seconds, Malformed, Beyond, UnknownUnit}

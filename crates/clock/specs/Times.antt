@@ -8,10 +8,10 @@ use lib.IntN.{pos}
 use lib.Ieee.{Float, binary64, ofInt, mul}
 use Rattle.decimals.specs.declared.Number.{Number}
 use Rattle.decimals.specs.declared.Number.the-variants as number
-use Rattle.decimals.specs.declared.Count.{Count}
-use Rattle.decimals.specs.declared.Count.the-variants.{Whole, Uncounted}
+use Rattle.counts.specs.declared.Count.{Count}
+use Rattle.counts.specs.declared.Count.the-variants.{Whole, Uncounted}
 use Rattle.decimals.specs.Numbers.{numberOf}
-use Rattle.decimals.specs.Counts.{countOf}
+use Rattle.counts.specs.Counts.{countOf}
 use Rattle.letters.specs.Words.{spelled}
 use Rattle.clock.specs.declared.Time.{Time}
 use Rattle.clock.specs.declared.Time.the-variants.{Seconds, Malformed, Beyond, UnknownUnit}

@@ -3,7 +3,7 @@ ghost use mathlib.Core.Path.{_≡_};
 ghost use Rattle.clock.specs.Cut.{cut};
 ghost use Rattle.clock.specs.Times.{colonAt, beforeColon, morning, afternoon, hourOf, colonForm, withoutS, unitWords, named, unitOf, inUnit, timeOf};
 ghost use Rattle.clock.specs.Products.{ByNearest};
-use decimals::Count;
+use counts::Count;
 use decimals::Number;
 
 pub enum Time {
@@ -73,14 +73,14 @@ fn hour_of(h: u64, suffix: &[u8]) -> u64
 fn colon_form(hours: &[u8], minutes: &[u8], suffix: &[u8]) -> Time
     ensures { λ r. ⌜ r ≡ colonForm (now (hours .entry)) (now (minutes .entry)) (now (suffix .entry)) ⌝ }
 {
-    let h = decimals::read_count(hours);
+    let h = counts::read_count(hours);
     let Count::Whole(h) = h else {
         return Time::Malformed;
     };
     if h > 1000000000 {
         return Time::Beyond;
     }
-    let m = decimals::read_count(minutes);
+    let m = counts::read_count(minutes);
     let Count::Whole(m) = m else {
         return Time::Malformed;
     };

@@ -1,56 +1,27 @@
--- A plain number is all that stands before the first whitespace, and what it is; the scan that reads it. Assumes nothing.
+-- A plain number is all that stands before the first whitespace, and what it is. Assumes nothing.
 use mathlib.Core.Path.{_≡_, refl, sym, ap, _∙_, subst}
-use mathlib.Core.Bool.{Bool, true, false, false≢true}
+use mathlib.Core.Bool.{Bool, true, false}
 use mathlib.Core.List.{List, [], _∷_}
-use Prim.Native.Nat.{ℕ, zero, suc, _+_, _-_, _*_, _^_, _≤_, _<_, min}
-use native.Mathlib.Nat.{le-of-eq, mul-assoc, mul-comm, mul-le-mul, pow-suc, pow-le-pow-right, zero-lt-suc}
+use Prim.Native.Nat.{ℕ, zero, suc, _+_, _-_, _≤_, _<_, min}
 use native.Mathlib.Omega.{arith}
 use native.Mathlib.Numerals.{add-one}
-use lib.ListN.{length, take, drop, getD, length-drop, drop-of-length-le}
+use lib.ListN.{length, take, drop, getD, length-drop}
 use lib.Seq.{drop-cons, drop-drop, drop-at, take-add, length-take-le}
+use Rattle.digits.specs.declared.Class.the-variants.{Digit, Sign, Point}
+use Rattle.digits.specs.Bytes.{classOf, is}
+use Rattle.digits.specs.Digits.{digits, value}
+use Rattle.digits.specs.Cap.{cap}
+use Rattle.digits.specs.Ends.{wordLen, ended}
+use Rattle.digits.specs.Runs.{Room, Scanned}
+use Rattle.digits.proofs.Lists.{tail-of}
+use Rattle.digits.proofs.Classes.{digit-is, space-no-digit}
+use Rattle.digits.proofs.Digits.{digits-no, digits-nil, digits-yes, digits-stop, digits-le}
+use Rattle.digits.proofs.Ends.{word-on, word-off, word-digits}
+use Rattle.digits.proofs.Runs.{all-places, all-counted}
 use Rattle.decimals.specs.declared.Number.{Number}
-use Rattle.decimals.specs.declared.Class.the-variants.{Space, Digit, Sign, Point}
-use Rattle.decimals.specs.Bytes.{classOf, is}
-use Rattle.decimals.specs.Digits.{digits, value}
-use Rattle.decimals.specs.Cap.{cap}
 use Rattle.decimals.specs.Reach.{meaning}
 use Rattle.decimals.specs.Numbers.{outcome, point, numberOf}
-use Rattle.decimals.specs.Begun.{wordLen, ended, Room, Scanned}
-use Rattle.decimals.proofs.Classes.{digit-is, space-no-digit}
-use Rattle.decimals.proofs.Digits.{digits-no, digits-nil, digits-yes, digits-step, digits-stop, value-nil, value-cons}
-use Rattle.decimals.proofs.Reading.{tail-of, digits-le, ending-nil, point-nil, point-only, digits-law, number-none, unsigned-begun}
-
--- ---- where the word ends
-pub ended-off : (s : List ℕ) (i : ℕ) → length s ≤ i → true ≡ ended (drop i s)
-ended-off s i h = ap ended (sym (drop-of-length-le s h))
-
-pub ended-at : (s : List ℕ) (i : ℕ) → i < length s → is Space (getD s i 0) ≡ ended (drop i s)
-ended-at s i h = ap ended (sym (drop-cons s i 0 h))
-
-pub goes-on : (s : List ℕ) (i : ℕ) → ended (drop i s) ≡ false → i < length s
-goes-on [] zero e = absurd (false≢true (sym e))
-goes-on [] (suc i) e = absurd (false≢true (sym e))
-goes-on (b ∷ t) zero e = omega arith
-goes-on (b ∷ t) (suc i) e = let h = goes-on t i e in omega arith
-
-word-on : (b : ℕ) (t : List ℕ) → is Space b ≡ false → wordLen (b ∷ t) ≡ suc (wordLen t)
-unfolding wordLen
-word-on b t e = simp e
-
-word-off : (s : List ℕ) → ended s ≡ true → wordLen s ≡ 0
-unfolding wordLen
-word-off [] e = refl
-word-off (b ∷ t) e = simp e
-
--- digits are a part of the word
-word-digits : (s : List ℕ) → wordLen s ≡ length (digits s) + wordLen (drop (length (digits s)) s)
-word-digits [] = rw digits-nil (omega arith)
-word-digits (b ∷ t) = go (is Digit b) refl (word-digits t)
-  where
-    go : (x : Bool) → is Digit b ≡ x → wordLen t ≡ length (digits t) + wordLen (drop (length (digits t)) t)
-        → wordLen (b ∷ t) ≡ length (digits (b ∷ t)) + wordLen (drop (length (digits (b ∷ t))) (b ∷ t))
-    go true e h = rw (digits-yes b t e, word-on b t (digit-is b e Space)) (omega (arith, h))
-    go false e h = rw (digits-no b t e) (omega arith)
+use Rattle.decimals.proofs.Reading.{ending-nil, point-nil, point-only, digits-law, number-none, unsigned-begun}
 
 -- ---- the digits of a text that is cut behind them
 digits-cut : (k : ℕ) (s : List ℕ) → length (digits s) ≤ k → digits (take k s) ≡ digits s
@@ -132,61 +103,7 @@ module _ (s : List ℕ) (v n : ℕ) (en : n ≡ length (digits s)) (ev : v ≡ m
               ∙ ap (λ (i : ℕ). numberOf (take i s)) (sym k),
         )
 
--- ---- the scan, digit by digit
-pub scan-none : (s : List ℕ) (from w : ℕ) → from ≤ length s → Scanned s from w from w
-scan-none s from w h = record { after = omega arith; inside = h; place = refl; count = refl }
-
-pub scan-more : {s : List ℕ} {from w i v x : ℕ} → Scanned s from w i v → i < length s → is Digit (getD s i 0) ≡ true → x ≡ v * 10 + (getD s i 0 - 48)
-    → Scanned s from w (i + 1) x
-scan-more {s} {from} {w} {i} {v} {x} k h e q =
-    let d = digits-step s i h e in
-    let ds : List ℕ = digits (drop (i + 1) s) in
-    record {
-      after = omega (arith, k .after);
-      inside = omega arith;
-      place = omega (arith, ap length d, k .place);
-      count = ap (λ (y : ℕ). value y ds) q ∙ sym (value-cons v (getD s i 0) ds) ∙ ap (value v) (sym d) ∙ k .count;
-    }
-
--- one digit takes one place of the room
-pub room-more : (v i to d x : ℕ) → i < to → d ≤ 9 → x ≡ v * 10 + d → Room v i to → Room x (i + 1) to
-room-more v i to d x h k q r =
-    let p : ℕ = 10 ^ (to - (i + 1)) in
-    let e : to - i ≡ suc (to - (i + 1)) = omega arith in
-    let m : suc x * p ≤ (suc v * 10) * p = mul-le-mul (omega arith) (le-of-eq refl) in
-    let a : (suc v * 10) * p ≡ suc v * (p * 10) = mul-assoc (suc v) 10 p ∙ ap (suc v *_) (mul-comm 10 p) in
-    let o : suc v * (p * 10) ≡ suc v * 10 ^ (to - i) = ap (suc v *_) (sym (pow-suc 10 (to - (i + 1))) ∙ ap (10 ^_) (sym e)) in
-    omega (arith, m, a, o, r)
-
-pub room-fits : (v i to : ℕ) → i < to → Room v i to → v * 10 + 10 ≤ 10 ^ 19
-room-fits v i to h r =
-    let m : suc v * 10 ^ 1 ≤ suc v * 10 ^ (to - i) = mul-le-mul (le-of-eq refl) (pow-le-pow-right {n = 10} (zero-lt-suc 9) {i = 1} {j = to - i} (omega arith)) in
-    omega (arith, m, r)
-
-pub room-first : (to : ℕ) → to ≤ 19 → Room 0 0 to
-room-first to h =
-    let m : 10 ^ (to - 0) ≤ 10 ^ 19 = pow-le-pow-right {n = 10} (zero-lt-suc 9) {i = to - 0} {j = 19} (omega arith) in
-    omega (arith, m)
-
--- the point takes a place too
-pub room-point : (v i to : ℕ) → Room v i to → Room v (i + 1) to
-room-point v i to r =
-    let m : suc v * 10 ^ (to - (i + 1)) ≤ suc v * 10 ^ (to - i) = mul-le-mul (le-of-eq refl) (pow-le-pow-right {n = 10} (zero-lt-suc 9) (omega arith)) in
-    omega (arith, m, r)
-
-room-cap : (v i to : ℕ) → Room v i to → v ≡ min v cap
-room-cap v i to r =
-    let m : suc v * 10 ^ 0 ≤ suc v * 10 ^ (to - i) = mul-le-mul (le-of-eq refl) (pow-le-pow-right {n = 10} (zero-lt-suc 9) {i = 0} {j = to - i} (omega arith)) in
-    omega (arith, m, r)
-
--- where no digit is left, all are counted
-module _ {s : List ℕ} {from w end v : ℕ} (k : Scanned s from w end v) (to : ℕ) (r : Room v end to) (none : digits (drop end s) ≡ []) where
-  all-places : end ≡ from + length (digits (drop from s))
-  all-places = omega (arith, k .place, ap length none)
-
-  all-counted : v ≡ min (value w (digits (drop from s))) cap
-  all-counted = room-cap v end to r ∙ ap (λ (x : ℕ). min x cap) (sym (value-nil v) ∙ ap (value v) (sym none) ∙ k .count)
-
+-- ---- what the scan has read
 ended-none : (d : List ℕ) → ended d ≡ true → digits d ≡ []
 ended-none [] e = digits-nil
 ended-none (b ∷ t) e = digits-no b t (space-no-digit b e)

@@ -5,12 +5,8 @@ pub mod Rounding
 pub mod Products
 pub mod Unique
 pub mod Tens
-pub mod Bytes
 pub mod Meaning
-pub mod Classes
-pub mod Digits
 pub mod Words
 pub mod Reading
 pub mod Begun
 pub mod Value
-pub mod Counts

@@ -10,7 +10,7 @@ use lib.Dec.{leb}
 use lib.Ieee.{fin, binary64, ofInt, mul, div}
 use borrow.Author.Tests.{lt-leb, le-leb, eq-eqb, ne-eqb}
 use Rattle.decimals.specs.declared.Number.the-variants.{Value, Beyond}
-use Rattle.decimals.specs.Cap.{cap}
+use Rattle.digits.specs.Cap.{cap}
 use Rattle.decimals.specs.Nearest.{gap}
 use Rattle.decimals.specs.Reach.{ten, signed, meaning}
 use Rattle.decimals.proofs.Whole.{le-or-lt}

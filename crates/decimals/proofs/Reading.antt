@@ -2,53 +2,29 @@
 use mathlib.Core.Path.{_≡_, refl, sym, ap, _∙_}
 use mathlib.Core.Bool.{Bool, true, false, not, cond, _||_}
 use mathlib.Core.List.{List, [], _∷_}
-use Prim.Native.Nat.{ℕ, suc, _+_, _-_, _≤_, _<_, min, zero-le, suc-le-suc}
-use native.Mathlib.Nat.{le-of-eq}
+use Prim.Native.Nat.{ℕ, _+_, _-_, _≤_, _<_, min}
 use native.Mathlib.Omega.{arith}
 use lib.ListN.{length, drop, take, getD, length-drop}
-use lib.Seq.{drop-cons, take-all}
 use lib.Dec.{eqb}
 use lib.Ieee.{inf, nan}
 use borrow.Author.Tests.{eq-eqb, ne-eqb}
 use Rattle.decimals.specs.declared.Number.the-variants.{Value, Malformed}
-use Rattle.decimals.specs.declared.Class.the-variants.{Digit, Sign, Point, Exponent}
+use Rattle.digits.specs.declared.Class.the-variants.{Sign, Point, Exponent}
 use Rattle.decimals.specs.Reach.{meaning}
-use Rattle.decimals.specs.Cap.{cap}
-use Rattle.decimals.specs.Bytes.{is}
-use Rattle.decimals.specs.Digits.{digits, after, value, empty}
+use Rattle.digits.specs.Cap.{cap}
+use Rattle.digits.specs.Bytes.{is}
+use Rattle.digits.specs.Digits.{digits, after, value, empty}
 use Rattle.decimals.specs.Numbers.{Reading, malformed, decimal, power, exponent, ending, point, outcome, unsigned, numberOf, spells, wordInf, wordInfinity, wordNan}
 use Rattle.decimals.proofs.Meaning.{meaning-cap-w}
-use Rattle.decimals.proofs.Digits.{capped}
+use Rattle.digits.proofs.Lists.{tail-of, head-of, nil-of}
+use Rattle.digits.proofs.Digits.{capped}
 use Rattle.decimals.proofs.Words.{digits-no-word}
-
--- ---- lists
-pub tail-of : (s : List ℕ) (n : ℕ) → take (length s - n) (drop n s) ≡ drop n s
-tail-of s n = take-all (length s - n) (drop n s) (le-of-eq (length-drop n s))
-
-pub head-of : (s : List ℕ) → 0 < length s → s ≡ getD s 0 0 ∷ drop 1 s
-head-of s h = drop-cons s 0 0 h
-
-pub nil-of : (s : List ℕ) → length s ≡ 0 → s ≡ []
-nil-of [] e = refl
-nil-of (b ∷ t) e = absurd (no (length t) e)
-  where
-    no : (n : ℕ) → suc n ≡ 0 → ⊥
-    no n e = omega arith
 
 empty-yes : (l : List ℕ) → length l ≡ 0 → empty l ≡ true
 empty-yes l e = ap empty (nil-of l e)
 
 empty-no : (l : List ℕ) → 0 < length l → empty l ≡ false
 empty-no l h = ap empty (head-of l h)
-
-pub digits-le : (s : List ℕ) → length (digits s) ≤ length s
-unfolding digits
-digits-le [] = zero-le
-digits-le (b ∷ t) = go (is Digit b) (digits-le t)
-  where
-    go : (x : Bool) → length (digits t) ≤ length t → length (cond x (b ∷ digits t) []) ≤ suc (length t)
-    go true h = suc-le-suc h
-    go false h = zero-le
 
 -- ---- an exponent after its sign
 abbrev wrong : List ℕ → Bool

@@ -9,12 +9,12 @@ use lib.ListN.{length, drop, getD, drop-of-length-le}
 use lib.Seq.{drop-cons}
 use lib.Dec.{eqb}
 use borrow.Author.Tests.{eq-eqb, ne-eqb, lt-leb}
-use Rattle.decimals.specs.declared.Class.the-variants.{Digit}
-use Rattle.decimals.specs.Bytes.{is, lower}
-use Rattle.decimals.specs.Digits.{digits}
+use Rattle.digits.specs.declared.Class.the-variants.{Digit}
+use Rattle.digits.specs.Bytes.{is, lower}
+use Rattle.digits.specs.Digits.{digits}
 use Rattle.decimals.specs.Numbers.{spells}
-use Rattle.decimals.proofs.Classes.{digit-range}
-use Rattle.decimals.proofs.Digits.{digits-no}
+use Rattle.digits.proofs.Classes.{digit-range}
+use Rattle.digits.proofs.Digits.{digits-no}
 
 and-false : (x y : Bool) → y ≡ false → x && y ≡ false
 and-false true y e = e

@@ -10,9 +10,9 @@ use lib.Dec.{T, eqb}
 use lib.Ieee.{Float, nan, inf, fin}
 use Rattle.decimals.specs.declared.Number.{Number}
 use Rattle.decimals.specs.declared.Number.the-variants.{Value, Malformed, Beyond}
-use Rattle.decimals.specs.declared.Class.the-variants.{Sign, Point, Exponent}
-use Rattle.decimals.specs.Bytes.{classOf, is, lower}
-use Rattle.decimals.specs.Digits.{digits, after, value, empty}
+use Rattle.digits.specs.declared.Class.the-variants.{Sign, Point, Exponent}
+use Rattle.digits.specs.Bytes.{classOf, is, lower}
+use Rattle.digits.specs.Digits.{digits, after, value, empty}
 use Rattle.decimals.specs.Reach.{reachable, meaning}
 use Rattle.decimals.specs.Nearest.{IsNearest}
 

@@ -9,10 +9,7 @@ use lib.IntN.{pos, negsuc}
 use lib.Ieee.{Float, fits, fin, inf, ofBits, binary64, ofInt, mul, div, neg}
 use Rattle.decimals.specs.declared.Number.{Number}
 use Rattle.decimals.specs.declared.Number.the-variants.{Value, Malformed, Beyond}
-use Rattle.decimals.specs.declared.Count.{Count}
-use Rattle.decimals.specs.declared.Count.the-variants.{Whole, Uncounted}
 use Rattle.decimals.specs.Numbers.{numberOf, numberAnswer}
-use Rattle.decimals.specs.Counts.{countOf, countAnswer}
 use Rattle.decimals.specs.Reach.{meaning}
 use Rattle.decimals.specs.Nearest.{Nearest}
 
@@ -44,31 +41,6 @@ numbers-right = refl
 numbers-answered : map (λ (row : List ℕ × Number). numberAnswer (row .1)) numberRows ≡ 0 ∷ 0 ∷ 2 ∷ 0 ∷ 22 ∷ 0 ∷ 0 ∷ 0 ∷ []
 unfolding numberRows
 numbers-answered = refl
-
--- counts: a text, and what it is
-countRows : List (List ℕ × Count)
-countRows =
-    -- +7
-    (43 ∷ 55 ∷ [], Whole 7)
-    -- 007
-    ∷ (48 ∷ 48 ∷ 55 ∷ [], Whole 7)
-    -- 18446744073709551615
-    ∷ (49 ∷ 56 ∷ 52 ∷ 52 ∷ 54 ∷ 55 ∷ 52 ∷ 52 ∷ 48 ∷ 55 ∷ 51 ∷ 55 ∷ 48 ∷ 57 ∷ 53 ∷ 53 ∷ 49 ∷ 54 ∷ 49 ∷ 53 ∷ [], Whole 18446744073709551615)
-    -- 18446744073709551616
-    ∷ (49 ∷ 56 ∷ 52 ∷ 52 ∷ 54 ∷ 55 ∷ 52 ∷ 52 ∷ 48 ∷ 55 ∷ 51 ∷ 55 ∷ 48 ∷ 57 ∷ 53 ∷ 53 ∷ 49 ∷ 54 ∷ 49 ∷ 54 ∷ [], Uncounted)
-    -- +
-    ∷ (43 ∷ [], Uncounted)
-    -- -0
-    ∷ (45 ∷ 48 ∷ [], Uncounted)
-    ∷ []
-
-counts-right : map (λ (row : List ℕ × Count). countOf (row .0)) countRows ≡ map (λ (row : List ℕ × Count). row .1) countRows
-unfolding countRows countOf
-counts-right = refl
-
-counts-answered : map (λ (row : List ℕ × Count). countAnswer (row .1)) countRows ≡ 0 ∷ 0 ∷ 0 ∷ 2 ∷ 2 ∷ 2 ∷ []
-unfolding countRows
-counts-answered = refl
 
 -- ---- what Nearest rules out
 -- 0.1: the double just below the nearest one

@@ -1,16 +1,12 @@
-// The class of a byte, decimal numbers and counts. specs/Numbers.antt says what is a number, specs/Nearest.antt which double it gives, and
-// specs/Counts.antt what is a count.
+// Decimal numbers. specs/Numbers.antt says what is a number, and specs/Nearest.antt which double it gives.
 ghost use mathlib.Core.Path.{_≡_};
-ghost use Prim.Native.Nat.{_+_, _-_, _*_, _^_, _<_, _≤_, min};
-ghost use lib.ListN.{length, drop};
+ghost use Prim.Native.Nat.{_^_, _<_, _≤_, min};
+ghost use Rattle.digits.specs.Cap.{cap};
 ghost use Rattle.decimals.specs.Nearest.{gap};
 ghost use Rattle.decimals.specs.Reach.{ten, signed, meaning};
-ghost use Rattle.decimals.specs.Bytes.{classOf, is, lower};
-ghost use Rattle.decimals.specs.Digits.{digits, value};
 ghost use Rattle.decimals.specs.Numbers.{spells, power, exponent, ending, point, unsigned, outcome, numberOf, readingOf, AsRead};
-ghost use Rattle.decimals.specs.Cap.{cap};
-ghost use Rattle.decimals.specs.Counts.{whole, countOf};
-ghost use Rattle.decimals.specs.Begun.{ended, Room, Scanned, Begins};
+ghost use Rattle.decimals.specs.Begun.{Begins};
+use digits::Class;
 
 pub enum Number {
     Value(f64),
@@ -88,57 +84,7 @@ fn valued(minus: bool, w: u64, up: usize, down: usize) -> Number
     }
 }
 
-// ---- bytes
-
-pub enum Class {
-    Space,
-    Digit,
-    Sign,
-    Point,
-    Exponent,
-    Other,
-}
-
-pub fn class_of(b: u8) -> Class
-    ensures { λ r. ⌜ r ≡ classOf b ⌝ }
-{
-    match b {
-        9..=13 | 32 => Class::Space,
-        48..=57 => Class::Digit,
-        43 | 45 => Class::Sign,
-        46 => Class::Point,
-        69 | 101 => Class::Exponent,
-        _ => Class::Other,
-    }
-}
-
-// Whether b is a digit. Most bytes of a number are, and the two comparisons are all that one costs: behind them the compiler drops the match.
-fn is_digit(b: u8) -> bool
-    ensures { λ r. ⌜ r ≡ is Class.Digit b ⌝ }
-{
-    if b < 48 {
-        return false;
-    }
-    if b > 57 {
-        return false;
-    }
-    match class_of(b) {
-        Class::Digit => true,
-        _ => false,
-    }
-}
-
-// A letter in lower case.
-fn lowered(b: u8) -> u8
-    ensures { λ r. ⌜ r ≡ lower b ⌝ }
-{
-    match b {
-        65..=90 => b + 32,
-        _ => b,
-    }
-}
-
-// ---- parts of a text
+// ---- the words inf, infinity and nan
 
 // Whether s is the word w, in any case of its letters.
 fn is_word(s: &[u8], w: &[u8]) -> bool
@@ -149,57 +95,12 @@ fn is_word(s: &[u8], w: &[u8]) -> bool
     }
     let mut i = 0;
     while i < s.len() {
-        if lowered(s[i]) != w[i] {
+        if digits::lowered(s[i]) != w[i] {
             return false;
         }
         i += 1;
     }
     true
-}
-
-// What a digit counts.
-fn digit_value(b: u8) -> u64
-    requires { ⌜ (48 ≤ b) × (b ≤ 57) ⌝ }
-    ensures { λ r. ⌜ r ≡ b - 48 ⌝ }
-{
-    (b as u64) - 48
-}
-
-// v with one digit more, up to a number past which it no longer matters.
-fn extended(v: u64, b: u8) -> u64
-    requires { ⌜ (48 ≤ b) × (b ≤ 57) ⌝ }
-    ensures { λ r. ⌜ r ≡ min (v * 10 + (b - 48)) cap ⌝ }
-{
-    if v < 1844674407370955161 {
-        v * 10 + digit_value(b)
-    } else {
-        18446744073709551610
-    }
-}
-
-// The digits that a text begins with: how many they are, and the number that they are, with the
-// digits of `start` before them.
-struct Run {
-    len: usize,
-    value: u64,
-}
-
-fn leading(s: &[u8], start: u64) -> Run
-    requires { ⌜ start ≤ cap ⌝ }
-    ensures { λ r. ⌜ (r .len ≡ length (digits (now (s .entry)))) × (r .value ≡ min (value start (digits (now (s .entry)))) cap) ⌝ }
-{
-    let mut i = 0;
-    let mut v = start;
-    while i < s.len() {
-        let b = s[i];
-        if is_digit(b) {
-            v = extended(v, b);
-        } else {
-            return Run { len: i, value: v };
-        }
-        i += 1;
-    }
-    Run { len: i, value: v }
 }
 
 // ---- a number, part by part: each function reads what is left, as the definition of the same part
@@ -210,7 +111,7 @@ fn read_power(minus: bool, w: u64, frac: usize, back: bool, s: &[u8]) -> Number
     requires { ⌜ frac < 2 ^ 63 ⌝ }
     ensures { λ r. ⌜ r ≡ outcome (power minus w frac back (now (s .entry))) ⌝ }
 {
-    let d = leading(s, 0);
+    let d = digits::leading(s, 0);
     let n = d.len;
     let x = d.value as usize;
     if n == 0 {
@@ -239,7 +140,7 @@ fn read_exponent(minus: bool, w: u64, frac: usize, s: &[u8]) -> Number
         return Number::Malformed;
     }
     let b = s[0];
-    match class_of(b) {
+    match digits::class_of(b) {
         Class::Sign => read_power(minus, w, frac, b == 45, &s[1..]),
         _ => read_power(minus, w, frac, false, s),
     }
@@ -257,7 +158,7 @@ fn read_ending(minus: bool, w: u64, count: usize, frac: usize, s: &[u8]) -> Numb
         return valued(minus, w, 0, frac);
     }
     let b = s[0];
-    match class_of(b) {
+    match digits::class_of(b) {
         Class::Exponent => read_exponent(minus, w, frac, &s[1..]),
         _ => Number::Malformed,
     }
@@ -275,10 +176,10 @@ fn read_point(minus: bool, w: u64, count: usize, s: &[u8]) -> Number
         return valued(minus, w, 0, 0);
     }
     let b = s[0];
-    match class_of(b) {
+    match digits::class_of(b) {
         Class::Point => {
             let t = &s[1..];
-            let d = leading(t, w);
+            let d = digits::leading(t, w);
             let n = d.len;
             let v = d.value;
             // Digits, a point, digits and the end, as most numbers are written.
@@ -297,7 +198,7 @@ fn read_point(minus: bool, w: u64, count: usize, s: &[u8]) -> Number
 fn read_unsigned(minus: bool, s: &[u8]) -> Number
     ensures { λ r. ⌜ r ≡ outcome (unsigned minus (now (s .entry))) ⌝ }
 {
-    let d = leading(s, 0);
+    let d = digits::leading(s, 0);
     let n = d.len;
     let v = d.value;
     // A text that begins with a digit is none of the three words.
@@ -323,7 +224,7 @@ pub fn read_number(s: &[u8]) -> Number
         return Number::Malformed;
     }
     let b = s[0];
-    match class_of(b) {
+    match digits::class_of(b) {
         Class::Sign => read_unsigned(b == 45, &s[1..]),
         _ => read_unsigned(false, s),
     }
@@ -335,48 +236,6 @@ pub fn read_number(s: &[u8]) -> Number
 pub enum Plain {
     Is(Number, usize),
     Other,
-}
-
-// Whether whitespace stands at i, or nothing.
-fn ends_at(s: &[u8], i: usize) -> bool
-    ensures { λ r. ⌜ r ≡ ended (drop i (now (s .entry))) ⌝ }
-{
-    if i < s.len() {
-        let b = s[i];
-        if 32 < b {
-            return false;
-        }
-        return match class_of(b) {
-            Class::Space => true,
-            _ => false,
-        };
-    }
-    true
-}
-
-// Where digits end, and the number that they are, with the digits of `start` before them.
-struct Few {
-    end: usize,
-    value: u64,
-}
-
-// The digits from `from` on, none of them past `to`: so few that no sum overflows.
-fn few_digits(s: &[u8], from: usize, to: usize, start: u64) -> Few
-    requires { ⌜ (from ≤ length (now s)) × (to ≤ length (now s)) × Room start from to ⌝ }
-    ensures { λ r. ⌜ Scanned (now (s .entry)) from start (r .end) (r .value) × Room (r .value) (r .end) to ⌝ }
-{
-    let mut i = from;
-    let mut v = start;
-    while i < to {
-        let b = s[i];
-        if is_digit(b) {
-            v = v * 10 + digit_value(b);
-        } else {
-            return Few { end: i, value: v };
-        }
-        i += 1;
-    }
-    Few { end: i, value: v }
 }
 
 // How far a plain number may reach: 19 digits stay below 2^64.
@@ -391,72 +250,27 @@ pub fn plain_number(s: &[u8]) -> Plain
     ensures { λ r. ⌜ Begins (now (s .entry)) r ⌝ }
 {
     let to = places(s.len());
-    let d = few_digits(s, 0, to, 0);
+    let d = digits::few_digits(s, 0, to, 0);
     let n = d.end;
     let v = d.value;
     if n == 0 {
         return Plain::Other;
     }
-    if ends_at(s, n) {
+    if digits::ends_at(s, n) {
         return Plain::Is(valued(false, v, 0, 0), n);
     }
     if s[n] != 46 {
         return Plain::Other;
     }
     let i = n + 1;
-    let f = few_digits(s, i, to, v);
+    let f = digits::few_digits(s, i, to, v);
     let e = f.end;
     let w = f.value;
     if e == i {
         return Plain::Other;
     }
-    if ends_at(s, e) {
+    if digits::ends_at(s, e) {
         return Plain::Is(valued(false, w, 0, e - i), e);
     }
     Plain::Other
-}
-
-// ---- a count
-
-pub enum Count {
-    Whole(u64),
-    Uncounted,
-}
-
-// s is a count after its sign. A digit is taken only where the count stays below 2^64.
-fn read_whole(s: &[u8]) -> Count
-    ensures { λ r. ⌜ r ≡ whole (now (s .entry)) ⌝ }
-{
-    if s.len() == 0 {
-        return Count::Uncounted;
-    }
-    let mut i = 0;
-    let mut v = 0;
-    while i < s.len() {
-        let b = s[i];
-        if is_digit(b) {
-            let d = digit_value(b);
-            if v > (18446744073709551615 - d) / 10 {
-                return Count::Uncounted;
-            }
-            v = v * 10 + d;
-        } else {
-            return Count::Uncounted;
-        }
-        i += 1;
-    }
-    Count::Whole(v)
-}
-
-pub fn read_count(s: &[u8]) -> Count
-    ensures { λ r. ⌜ r ≡ countOf (now (s .entry)) ⌝ }
-{
-    if s.len() == 0 {
-        return Count::Uncounted;
-    }
-    if s[0] == 43 {
-        read_whole(&s[1..])
-    } else {
-        read_whole(s)
-    }
 }

@@ -9,7 +9,7 @@ use mathlib.Core.Bool.{Bool, true, false, cond}
 use mathlib.Core.List.{List, [], _∷_, map}
 use lib.ListN.{length, take, drop, getD, length-drop, length-take, drop-of-length-le}
 use lib.Seq.{drop-cons, drop-drop, length-take-le, take-take, take-nil, getD-drop}
-use Rattle.decimals.specs.Begun.{wordLen}
+use Rattle.digits.specs.Ends.{wordLen}
 use Rattle.fields.specs.Lines.{isSpace, startTrimmed, cutOf}
 use Rattle.fields.specs.Fields.{Name, part, nameIn, onFirst, before, fieldsOf, fieldsAt, rest, endOr, Fits, Next, Past}
 use Rattle.fields.specs.Scan.{spanLen, startAt}

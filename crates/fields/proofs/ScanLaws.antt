@@ -10,7 +10,7 @@ use mathlib.Core.List.{List, [], _∷_}
 use lib.ListN.{length, take, drop, getD, length-drop, drop-of-length-le}
 use lib.Seq.{drop-cons, drop-drop}
 use lib.Dec.{eqb}
-use Rattle.decimals.specs.Begun.{wordLen}
+use Rattle.digits.specs.Ends.{wordLen}
 use Rattle.fields.specs.Lines.{isSpace}
 use Rattle.fields.specs.Fields.{part}
 use Rattle.fields.specs.declared.Kind.{Kind}

@@ -3,8 +3,8 @@ use Prim.Native.Nat.{ℕ, suc}
 use mathlib.Core.Bool.{Bool, cond}
 use mathlib.Core.List.{List, [], _∷_, _++_}
 use lib.Dec.{eqb}
-use Rattle.decimals.specs.Bytes.{is}
-use Rattle.decimals.specs.declared.Class.the-variants.{Space}
+use Rattle.digits.specs.Bytes.{is}
+use Rattle.digits.specs.declared.Class.the-variants.{Space}
 use Rattle.fields.specs.declared.LineKind.{LineKind}
 use Rattle.fields.specs.declared.LineKind.the-variants.{Blank, Header, Other}
 

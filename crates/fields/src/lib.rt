@@ -6,7 +6,7 @@ ghost use lib.ListN.{length, take, drop};
 ghost use Rattle.fields.specs.Lines.{isSpace, lineLen, endTrimmed, trimmed, lineKind, kindBy, cutOf};
 ghost use Rattle.fields.specs.Fields.{part, fieldsAt, lettersOr, Next, Past};
 ghost use Rattle.fields.specs.Scan.{isKind, spanLen, startAt, has, Skips};
-use decimals::Class;
+use digits::Class;
 
 // ---- lines
 
@@ -23,7 +23,7 @@ pub fn is_space(b: u8) -> bool
     if 32 < b {
         return false;
     }
-    let k = decimals::class_of(b);
+    let k = digits::class_of(b);
     if let Class::Space = k { true } else { false }
 }
 

@@ -7,7 +7,7 @@ use mathlib.Core.Bool.{Bool, true, false, cond}
 use mathlib.Core.List.{List, [], _∷_, _++_, map, append-assoc, append-nil, map-append}
 use lib.ListN.{length, take, drop, length-append, length-take, length-drop, drop-of-length-le}
 use lib.Seq.{take-length, take-all}
-use Rattle.decimals.specs.Bytes.{classOf}
+use Rattle.digits.specs.Bytes.{classOf}
 use Rattle.fields.specs.Fields.{Name, part, fieldsOf, fieldsAt, Next}
 use Rattle.fields.specs.Lines.{chunks, joined, lineLen, startTrimmed, endTrimmed, trimmed, lineKind}
 use Rattle.letters.specs.Words.{begins}

@@ -5,8 +5,8 @@ use lib.IntN.{pos}
 use lib.Ieee.{Float, fin}
 use Rattle.decimals.specs.declared.Number.{Number}
 use Rattle.decimals.specs.declared.Number.the-variants.{Value, Malformed, Beyond}
-use Rattle.decimals.specs.declared.Count.{Count}
-use Rattle.decimals.specs.declared.Count.the-variants.{Whole, Uncounted}
+use Rattle.counts.specs.declared.Count.{Count}
+use Rattle.counts.specs.declared.Count.the-variants.{Whole, Uncounted}
 
 abbrev pub valueIn : Number → Float
 valueIn (Value x) = x

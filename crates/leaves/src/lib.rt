@@ -1,11 +1,11 @@
 // The leaves that a Rust program links, to compare them with the Rust readers: each hands out document 01's number, and writes the value.
 ghost use mathlib.Core.Path.{_≡_};
 ghost use Rattle.decimals.specs.Numbers.{numberOf, numberAnswer};
-ghost use Rattle.decimals.specs.Counts.{countOf, countAnswer};
+ghost use Rattle.counts.specs.Counts.{countOf, countAnswer};
 ghost use Rattle.clock.specs.Times.{timeOf, timeAnswer, secondsIn};
 ghost use Rattle.leaves.specs.Values.{valueIn, wholeIn};
 use clock::Time;
-use decimals::Count;
+use counts::Count;
 use decimals::Number;
 
 #[no_mangle]
@@ -35,7 +35,7 @@ pub extern "C" fn leaf_count(s: &[u8], out: &mut u64) -> u64
     ensures answer { λ r. ⌜ r ≡ countAnswer (countOf (now (s .entry))) ⌝ }
     ensures value { λ _. ⌜ now (out .exit) ≡ wholeIn (countOf (now (s .entry))) ⌝ }
 {
-    let n = decimals::read_count(s);
+    let n = counts::read_count(s);
     match n {
         Count::Whole(x) => {
             *out = x;

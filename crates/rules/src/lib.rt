@@ -22,7 +22,7 @@ use clauses::HeadRead;
 use clauses::KindRead;
 use clauses::RuleWord;
 use clauses::ValueRead;
-use decimals::Count;
+use counts::Count;
 use fields::Field;
 use fields::Span;
 use headers::OwnLine;
@@ -169,7 +169,7 @@ fn ranked_line(l: &[u8], at: usize) -> LineRead
     let Field::Taken(s) = f else {
         return LineRead::Refused(Reason::Missing);
     };
-    let n = decimals::read_count(fields::letters_of(l, s));
+    let n = counts::read_count(fields::letters_of(l, s));
     match n {
         Count::Whole(n) => LineRead::Ranked(n),
         Count::Uncounted => LineRead::Refused(Reason::Malformed),

@@ -11,7 +11,7 @@ use lib.Dec.{eqb}
 use lib.IntN.{pos}
 use lib.Ieee.{Float, lt, mul, div, ofInt, ofBits, neg, binary64}
 use Rattle.decimals.specs.Numbers.{numberOf}
-use Rattle.decimals.specs.Counts.{countOf}
+use Rattle.counts.specs.Counts.{countOf}
 use Rattle.decimals.specs.Reach.{meaning}
 use Rattle.clock.specs.Times.{timeOf, colonForm, hourOf, inUnit, colonAt, withoutS, unitOf}
 use Rattle.clock.specs.Times as clock

@@ -5,11 +5,11 @@ use mathlib.Core.List.{List, [], _∷_}
 use mathlib.Core.Option.{Option, none, some}
 use lib.Ieee.{Float}
 use Rattle.decimals.specs.Numbers.{numberOf}
-use Rattle.decimals.specs.Counts.{countOf}
+use Rattle.counts.specs.Counts.{countOf}
 use Rattle.decimals.specs.declared.Number as N
 use Rattle.decimals.specs.declared.Number.the-variants as number
-use Rattle.decimals.specs.declared.Count as C
-use Rattle.decimals.specs.declared.Count.the-variants as count
+use Rattle.counts.specs.declared.Count as C
+use Rattle.counts.specs.declared.Count.the-variants as count
 use Rattle.clock.specs.Times.{timeOf}
 use Rattle.clock.specs.declared.Time as T
 use Rattle.clock.specs.declared.Time.the-variants as time

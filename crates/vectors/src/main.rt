@@ -7,7 +7,7 @@
 // Bits and values are 16 hexadecimal digits; 2, 7 and 22 are the numbers of document 01. One space stands between two fields,
 // and a text may be empty. A line that begins with # says where the lines after it come from.
 use clock::Time;
-use decimals::Count;
+use counts::Count;
 use decimals::Number;
 
 fn same(a: &[u8], b: &[u8]) -> bool {
@@ -46,7 +46,7 @@ fn number_agrees(text: &[u8], answer: &[u8]) -> bool {
 }
 
 fn count_agrees(text: &[u8], answer: &[u8]) -> bool {
-    match decimals::read_count(text) {
+    match counts::read_count(text) {
         Count::Whole(n) => is_hex(n, answer),
         Count::Uncounted => same(answer, b"2"),
     }

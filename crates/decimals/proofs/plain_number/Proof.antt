@@ -3,7 +3,9 @@ use mathlib.Core.Path.{sym, _∙_}
 use Prim.Native.Nat.{_<_}
 use native.Mathlib.Omega.{arith}
 use lib.ListN.{length}
-use Rattle.decimals.proofs.Begun.{goes-on, room-first, room-point, whole-read, point-read}
+use Rattle.digits.proofs.Ends.{goes-on}
+use Rattle.digits.proofs.Runs.{room-first, room-point}
+use Rattle.decimals.proofs.Begun.{whole-read, point-read}
 use borrow.Author.Needs.{needs}
 use Rattle.decimals.proofs.plain_number.Statement.{statement}
 use Rattle.decimals.proofs.plain_number.Tie as tie

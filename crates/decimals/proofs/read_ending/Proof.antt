@@ -4,10 +4,11 @@ use mathlib.Core.List.{List, [], _∷_}
 use Prim.Native.Nat.{ℕ, _<_}
 use native.Mathlib.Omega.{arith}
 use lib.ListN.{length}
-use Rattle.decimals.specs.declared.Class.the-variants.{Exponent}
+use Rattle.digits.specs.declared.Class.the-variants.{Exponent}
 use Rattle.decimals.specs.Numbers.{exponent, outcome}
-use Rattle.decimals.proofs.Classes.{is-class, not-class}
-use Rattle.decimals.proofs.Reading.{tail-of, ending-none, ending-nil, ending-letter, ending-other}
+use Rattle.digits.proofs.Classes.{is-class, not-class}
+use Rattle.digits.proofs.Lists.{tail-of}
+use Rattle.decimals.proofs.Reading.{ending-none, ending-nil, ending-letter, ending-other}
 use borrow.Author.Needs.{needs}
 use Rattle.decimals.proofs.read_ending.Statement.{statement}
 use Rattle.decimals.proofs.read_ending.Tie as tie

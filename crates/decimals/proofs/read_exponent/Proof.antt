@@ -5,10 +5,11 @@ use Prim.Native.Nat.{ℕ, _<_}
 use native.Mathlib.Omega.{arith}
 use lib.ListN.{length, getD}
 use lib.Dec.{eqb}
-use Rattle.decimals.specs.declared.Class.the-variants.{Sign}
+use Rattle.digits.specs.declared.Class.the-variants.{Sign}
 use Rattle.decimals.specs.Numbers.{power, outcome}
-use Rattle.decimals.proofs.Classes.{is-class, not-class}
-use Rattle.decimals.proofs.Reading.{tail-of, exponent-nil, exponent-sign, exponent-none}
+use Rattle.digits.proofs.Classes.{is-class, not-class}
+use Rattle.digits.proofs.Lists.{tail-of}
+use Rattle.decimals.proofs.Reading.{exponent-nil, exponent-sign, exponent-none}
 use borrow.Author.Needs.{needs}
 use Rattle.decimals.proofs.read_exponent.Statement.{statement}
 use Rattle.decimals.proofs.read_exponent.Tie as tie

@@ -6,10 +6,11 @@ use Prim.Native.Nat.{ℕ, _<_}
 use native.Mathlib.Omega.{arith}
 use lib.ListN.{length, getD}
 use lib.Dec.{eqb}
-use Rattle.decimals.specs.declared.Class.the-variants.{Sign}
+use Rattle.digits.specs.declared.Class.the-variants.{Sign}
 use Rattle.decimals.specs.Numbers.{unsigned, outcome}
-use Rattle.decimals.proofs.Classes.{is-class, not-class}
-use Rattle.decimals.proofs.Reading.{tail-of, number-nil, number-sign, number-none}
+use Rattle.digits.proofs.Classes.{is-class, not-class}
+use Rattle.digits.proofs.Lists.{tail-of}
+use Rattle.decimals.proofs.Reading.{number-nil, number-sign, number-none}
 use borrow.Author.Needs.{needs}
 use Rattle.decimals.proofs.read_number.Statement.{statement}
 use Rattle.decimals.proofs.read_number.Tie as tie

@@ -5,12 +5,14 @@ use mathlib.Core.List.{List, [], _∷_}
 use Prim.Native.Nat.{ℕ, _-_, _^_, _<_, _≤_}
 use native.Mathlib.Omega.{arith}
 use lib.ListN.{length, take, drop, getD, length-drop}
-use Rattle.decimals.specs.declared.Class.the-variants.{Point}
-use Rattle.decimals.specs.Bytes.{is}
-use Rattle.decimals.specs.Digits.{digits}
+use Rattle.digits.specs.declared.Class.the-variants.{Point}
+use Rattle.digits.specs.Bytes.{is}
+use Rattle.digits.specs.Digits.{digits}
 use Rattle.decimals.specs.Numbers.{outcome}
-use Rattle.decimals.proofs.Classes.{is-class, not-class}
-use Rattle.decimals.proofs.Reading.{tail-of, digits-le, ending-none, ending-nil, point-nil, point-no, point-law, point-only}
+use Rattle.digits.proofs.Classes.{is-class, not-class}
+use Rattle.digits.proofs.Lists.{tail-of}
+use Rattle.digits.proofs.Digits.{digits-le}
+use Rattle.decimals.proofs.Reading.{ending-none, ending-nil, point-nil, point-no, point-law, point-only}
 use borrow.Author.Needs.{needs}
 use Rattle.decimals.proofs.read_point.Statement.{statement}
 use Rattle.decimals.proofs.read_point.Tie as tie

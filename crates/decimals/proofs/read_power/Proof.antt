@@ -5,8 +5,8 @@ use Prim.Native.Nat.{ℕ, _+_, _<_, _≤_, min}
 use native.Mathlib.Omega.{arith}
 use lib.ListN.{length}
 use Rattle.decimals.specs.Reach.{meaning}
-use Rattle.decimals.specs.Cap.{cap}
-use Rattle.decimals.specs.Digits.{digits, value}
+use Rattle.digits.specs.Cap.{cap}
+use Rattle.digits.specs.Digits.{digits, value}
 use Rattle.decimals.proofs.Meaning.{meaning-cap-up, meaning-cap-down}
 use Rattle.decimals.proofs.Reading.{power-none, power-more, power-back, power-forth}
 use borrow.Author.Needs.{needs}

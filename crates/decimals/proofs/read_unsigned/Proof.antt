@@ -9,9 +9,10 @@ use lib.ListN.{length}
 use lib.Ieee.{inf, nan, binary64, ofBits, div, neg}
 use Rattle.decimals.specs.declared.Number.the-variants.{Value}
 use Rattle.decimals.specs.Reach.{signed}
-use Rattle.decimals.specs.Digits.{digits}
+use Rattle.digits.specs.Digits.{digits}
 use Rattle.decimals.specs.Numbers.{outcome}
-use Rattle.decimals.proofs.Reading.{digits-le, digits-law, unsigned-inf, unsigned-infinity, unsigned-nan, unsigned-digits, unsigned-begun}
+use Rattle.digits.proofs.Digits.{digits-le}
+use Rattle.decimals.proofs.Reading.{digits-law, unsigned-inf, unsigned-infinity, unsigned-nan, unsigned-digits, unsigned-begun}
 use borrow.Author.Needs.{needs}
 use Rattle.decimals.proofs.read_unsigned.Statement.{statement}
 use Rattle.decimals.proofs.read_unsigned.Tie as tie

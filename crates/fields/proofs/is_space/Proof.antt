@@ -2,8 +2,8 @@
 use borrow.Author.Needs.{needs}
 use mathlib.Core.Path.{sym}
 use mathlib.Core.List.{[], _∷_}
-use Rattle.decimals.specs.declared.Class.the-variants.{Space}
-use Rattle.decimals.proofs.Classes.{is-class, not-class, above-space}
+use Rattle.digits.specs.declared.Class.the-variants.{Space}
+use Rattle.digits.proofs.Classes.{is-class, not-class, above-space}
 use Rattle.fields.proofs.is_space.Statement.{statement}
 use Rattle.fields.proofs.is_space.Tie as tie
 
