@@ -1,4 +1,2 @@
--- What the proofs of this crate, and of links, use.
+-- What the proofs of this crate, of pumplines, valvelines and links use.
 pub mod NameLaws
-pub mod PumpLaws
-pub mod ValveLaws

@@ -1,16 +1,13 @@
 -- The three names with which a link's line starts, and lines that lack one. Assumes nothing.
 use Prim.Native.Nat.{ℕ, _<_}
 use native.Mathlib.Omega.{arith}
-use mathlib.Core.Path.{_≡_, refl, sym, _∙_, subst}
-use mathlib.Core.Bool.{Bool}
+use mathlib.Core.Path.{_≡_, refl, subst}
 use mathlib.Core.List.{List, [], _∷_}
 use lib.ListN.{length}
 use Rattle.fields.specs.Fields.{Name}
-use Rattle.letters.specs.Words.{same}
 use Rattle.scope.specs.declared.Reason.the-variants.{Missing}
-use Rattle.scope.specs.Records.{Network}
 use Rattle.scope.specs.Values.{Read, bad, onTook, nameFrom}
-use Rattle.scope.specs.Links.{LinkFields, pipeOf, valveOf, pumpStep}
+use Rattle.scope.specs.Links.{LinkFields, pipeOf}
 use Rattle.linklines.specs.Lines.{NamesAs, LinkAs}
 use Rattle.linklines.specs.declared.NamesRead.{NamesRead}
 use Rattle.linklines.specs.declared.LinkRead.{LinkRead}
@@ -22,12 +19,8 @@ told-names l fs e h = subst (λ (x : NamesRead). NamesAs l fs x) e h
 pub told-link : (l : List ℕ) (o : Read LinkFields) {r r′ : LinkRead} → r ≡ r′ → LinkAs l o r → LinkAs l o r′
 told-link l o e h = subst (λ (x : LinkRead). LinkAs l o x) e h
 
--- a test of a word that is part of the line
-pub told-word : (w : List ℕ) {a b : List ℕ} {r t : Bool} → a ≡ b → r ≡ same a w → r ≡ t → same b w ≡ t
-told-word w e h k = rw (← e) (sym h ∙ k)
-
 -- fewer than three fields, whatever is made of three
-few : {B : Type 0} (k : Name → Name → Name → List Name → Read B) (fs : List Name) → length fs < 3
+pub few : {B : Type 0} (k : Name → Name → Name → List Name → Read B) (fs : List Name) → length fs < 3
     → onTook (nameFrom fs) (λ id fs. onTook (nameFrom fs) (λ start fs. onTook (nameFrom fs) (λ end fs. k id start end fs))) ≡ bad Missing
 few k [] h = refl
 few k (a ∷ []) h = refl
@@ -37,11 +30,3 @@ few k (a ∷ b ∷ c ∷ fs) h = absurd (omega arith)
 pub few-pipe : (fs : List Name) → length fs < 3 → pipeOf fs ≡ bad Missing
 unfolding pipeOf
 few-pipe fs h = few _ fs h
-
-pub few-valve : (fs : List Name) → length fs < 3 → valveOf fs ≡ bad Missing
-unfolding valveOf
-few-valve fs h = few _ fs h
-
-pub few-pump : (fs : List Name) (m : Network) → length fs < 3 → pumpStep fs m ≡ bad Missing
-unfolding pumpStep
-few-pump fs m h = few _ fs h

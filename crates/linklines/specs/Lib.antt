@@ -1,2 +1,2 @@
--- What the contracts of this crate, and of links, cite.
+-- What the contracts of this crate, of pumplines, valvelines and links cite.
 pub mod Lines

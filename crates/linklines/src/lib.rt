@@ -1,9 +1,9 @@
-// Reads a line of PIPES, PUMPS or VALVES: the fields in order, and what they say. Nothing is looked up or stored here.
+// What a line of PIPES, PUMPS or VALVES says, the names with which each starts, and a line of PIPES read whole (pumplines and valvelines
+// read the other two). Nothing is looked up or stored here.
 ghost use mathlib.Core.Path.{_≡_};
-ghost use Rattle.fields.specs.Fields.{fieldsAt, nameIn, Fits};
-ghost use Rattle.scope.specs.Links.{statusIn, pipeOf, noPump, withPair, pumpFrom, typeOf, settingFrom, valveOf};
-ghost use Rattle.takers.specs.Taking.{MayFit};
-ghost use Rattle.linklines.specs.Lines.{NamesAs, LinkAs, pumpIn, PumpAs, TypeAs, SettingAs, settingReason, OverridingAs};
+ghost use Rattle.fields.specs.Fields.{fieldsAt};
+ghost use Rattle.scope.specs.Links.{statusIn, pipeOf};
+ghost use Rattle.linklines.specs.Lines.{NamesAs, LinkAs};
 use fields::Field;
 use fields::Span;
 use scope::PipeStatus;
@@ -62,22 +62,6 @@ pub struct LinkLine {
 pub enum LinkRead {
     Line(LinkLine),
     NoLine(Reason),
-}
-
-pub enum PumpRead {
-    Pairs(Pump),
-    NoPump(Reason),
-}
-
-pub enum TypeRead {
-    Type(ValveType),
-    NoType,
-}
-
-// A setting, the curve that stands in its place, and where its field ends.
-pub enum TookSetting {
-    Setting(f64, Field, usize),
-    NoSetting(Reason),
 }
 
 // ---- reading them
@@ -154,188 +138,5 @@ pub fn read_pipe(l: &[u8], at: usize) -> LinkRead
     LinkRead::Line(LinkLine {
         names,
         kind: LinkKind::PipeKind(pipe),
-    })
-}
-
-// What a pump's word and its value make of the pump. A malformed number is swallowed; one beyond reach is refused.
-fn with_pair(l: &[u8], p: Pump, word: Span, value: Span) -> PumpRead
-    ensures { λ r. ⌜ (MayFit (now (l .entry)) (p .head) → Fits (now (l .entry)) value
-        → PumpAs (now (l .entry)) (withPair (pumpIn (now (l .entry)) p) (nameIn (now (l .entry)) word) (nameIn (now (l .entry)) value)) r) ⌝ }
-{
-    let name = fields::letters_of(l, word);
-    let head = p.head;
-    if letters::equal(name, b"SPEED") {
-        let n = decimals::read_number(fields::letters_of(l, value));
-        let t = takers::swallow(n, 1.0, value.end);
-        let TookNumber::Number(speed, _) = t else {
-            return PumpRead::NoPump(takers::reason_of(t));
-        };
-        let power = p.power;
-        return PumpRead::Pairs(Pump { speed, head, power });
-    }
-    if letters::equal(name, b"HEAD") {
-        let speed = p.speed;
-        let power = p.power;
-        let curve = Field::Taken(value);
-        return PumpRead::Pairs(Pump {
-            speed,
-            head: curve,
-            power,
-        });
-    }
-    if letters::equal(name, b"POWER") {
-        let n = decimals::read_number(fields::letters_of(l, value));
-        let t = takers::swallow(n, 0.0, value.end);
-        let TookNumber::Number(power, _) = t else {
-            return PumpRead::NoPump(takers::reason_of(t));
-        };
-        let speed = p.speed;
-        return PumpRead::Pairs(Pump { speed, head, power });
-    }
-    PumpRead::Pairs(p)
-}
-
-// Pairs of a word and its value, from `at` on. A lone last word is ignored.
-pub fn read_pairs(l: &[u8], at: usize) -> PumpRead
-    ensures { λ r. ⌜ PumpAs (now (l .entry)) (pumpFrom noPump (fieldsAt (now (l .entry)) at)) r ⌝ }
-{
-    let none = Field::Nothing;
-    let mut p = Pump {
-        speed: 1.0,
-        head: none,
-        power: 0.0,
-    };
-    let mut i = at;
-    loop {
-        let f = fields::next_field(l, i);
-        let Field::Taken(word) = f else {
-            return PumpRead::Pairs(p);
-        };
-        let g = fields::next_field(l, word.end);
-        let Field::Taken(value) = g else {
-            return PumpRead::Pairs(p);
-        };
-        let q = with_pair(l, p, word, value);
-        match q {
-            PumpRead::Pairs(more) => {
-                p = more;
-                i = value.end;
-            }
-            PumpRead::NoPump(why) => {
-                return PumpRead::NoPump(why);
-            }
-        }
-    }
-}
-
-// A valve's type, in any case.
-fn read_type(word: &[u8]) -> TypeRead
-    ensures { λ r. ⌜ TypeAs (typeOf (now (word .entry))) r ⌝ }
-{
-    if letters::spells(word, b"GPV") {
-        return TypeRead::Type(ValveType::Gpv);
-    }
-    if letters::spells(word, b"TCV") {
-        return TypeRead::Type(ValveType::Tcv);
-    }
-    if letters::spells(word, b"FCV") {
-        return TypeRead::Type(ValveType::Fcv);
-    }
-    if letters::spells(word, b"PRV") {
-        return TypeRead::Type(ValveType::Prv);
-    }
-    if letters::spells(word, b"PSV") {
-        return TypeRead::Type(ValveType::Psv);
-    }
-    if letters::spells(word, b"PBV") {
-        return TypeRead::Type(ValveType::Pbv);
-    }
-    if letters::spells(word, b"PCV") {
-        return TypeRead::Type(ValveType::Pcv);
-    }
-    TypeRead::NoType
-}
-
-// A number; for a GPV a curve.
-fn take_setting(l: &[u8], at: usize, kind: ValveType) -> TookSetting
-    ensures { λ r. ⌜ SettingAs (now (l .entry)) (settingFrom kind (fieldsAt (now (l .entry)) at)) r ⌝ }
-{
-    if let ValveType::Gpv = kind {
-        let curve = fields::next_field(l, at);
-        let Field::Taken(named) = curve else {
-            return TookSetting::Setting(0.0, curve, at);
-        };
-        return TookSetting::Setting(0.0, curve, named.end);
-    }
-    let t = takers::take_swallowed(l, at, 0.0);
-    match t {
-        TookNumber::Number(x, next) => {
-            let none = Field::Nothing;
-            TookSetting::Setting(x, none, next)
-        }
-        TookNumber::NoNumber(why) => TookSetting::NoSetting(why),
-    }
-}
-
-// Why no setting was taken.
-fn setting_reason(t: TookSetting) -> Reason
-    ensures { λ r. ⌜ r ≡ settingReason t ⌝ }
-{
-    match t {
-        TookSetting::Setting(_, _, _) => Reason::Missing,
-        TookSetting::NoSetting(why) => why,
-    }
-}
-
-// The curve at `at`, which overrides the valve's own.
-fn take_overriding(l: &[u8], at: usize, own: Field) -> Field
-    ensures { λ r. ⌜ OverridingAs (now (l .entry)) (fieldsAt (now (l .entry)) at) own r ⌝ }
-{
-    let f = fields::next_field(l, at);
-    match f {
-        Field::Taken(s) => Field::Taken(s),
-        Field::Nothing => own,
-    }
-}
-
-// Id, two nodes, diameter, type, setting, minor loss, a curve.
-pub fn read_valve(l: &[u8], at: usize) -> LinkRead
-    ensures { λ r. ⌜ LinkAs (now (l .entry)) (valveOf (fieldsAt (now (l .entry)) at)) r ⌝ }
-{
-    let three = read_names(l, at);
-    let NamesRead::Names(names) = three else {
-        return LinkRead::NoLine(Reason::Missing);
-    };
-    let first = takers::take_number(l, names.end.end);
-    let TookNumber::Number(diameter, at2) = first else {
-        return LinkRead::NoLine(takers::reason_of(first));
-    };
-    let f = fields::next_field(l, at2);
-    let Field::Taken(word) = f else {
-        return LinkRead::NoLine(Reason::Missing);
-    };
-    let known = read_type(fields::letters_of(l, word));
-    let TypeRead::Type(kind) = known else {
-        return LinkRead::NoLine(Reason::Unknown);
-    };
-    let second = take_setting(l, word.end, kind);
-    let TookSetting::Setting(setting, own, at3) = second else {
-        return LinkRead::NoLine(setting_reason(second));
-    };
-    let third = takers::take_swallowed(l, at3, 0.0);
-    let TookNumber::Number(minor, at4) = third else {
-        return LinkRead::NoLine(takers::reason_of(third));
-    };
-    let curve = take_overriding(l, at4, own);
-    let valve = Valve {
-        kind,
-        diameter,
-        setting,
-        minor,
-        curve,
-    };
-    LinkRead::Line(LinkLine {
-        names,
-        kind: LinkKind::ValveKind(valve),
     })
 }

@@ -1,11 +1,11 @@
 -- What a line says in the text's own names, and what a line of PUMPS does. Assumes nothing.
-use Prim.Native.Nat.{ℕ}
+use Prim.Native.Nat.{ℕ, _<_}
 use mathlib.Core.Path.{_≡_, refl, _∙_}
 use mathlib.Core.List.{List, _∷_}
-use lib.ListN.{take}
+use lib.ListN.{length, take}
 use Rattle.fields.specs.Fields.{Name, nameIn}
 use Rattle.scope.specs.declared.Reason.{Reason}
-use Rattle.scope.specs.declared.Reason.the-variants.{NotFound}
+use Rattle.scope.specs.declared.Reason.the-variants.{Missing, NotFound}
 use Rattle.scope.specs.Records.{Network}
 use Rattle.scope.specs.Records as records
 use Rattle.scope.specs.Values.{good, bad}
@@ -18,6 +18,7 @@ use Rattle.linklines.specs.declared.LinkKind.{LinkKind}
 use Rattle.linklines.specs.declared.LinkKind.the-variants.{PipeKind, PumpKind, ValveKind}
 use Rattle.linklines.specs.declared.LinkNames.{LinkNames}
 use Rattle.linklines.specs.declared.LinkLine.{LinkLine}
+use Rattle.linklines.proofs.NameLaws.{few}
 
 -- a line is the text up to its end
 module _ (text : List ℕ) (end : ℕ) where
@@ -38,6 +39,10 @@ module _ (text : List ℕ) (end : ℕ) where
   pump-text p h = rw (opt-text text end (p .head) h)
 
 -- ---- a pump, whose nodes are looked up before its pairs
+pub few-pump : (fs : List Name) (m : Network) → length fs < 3 → pumpStep fs m ≡ bad Missing
+unfolding pumpStep
+few-pump fs m h = few _ fs h
+
 module _ {fs gs : List Name} {id start end : Name} (m : Network) (names : fs ≡ id ∷ start ∷ end ∷ gs) where
   pub pump-no-ends : endsOf start end m ≡ bad NotFound → pumpStep fs m ≡ bad NotFound
   unfolding pumpStep

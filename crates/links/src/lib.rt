@@ -1,4 +1,4 @@
-// Stores what a line of PIPES, PUMPS or VALVES says (linklines reads it): the two nodes are looked up and the link is appended.
+// Stores what a line of PIPES, PUMPS or VALVES says (linklines, pumplines and valvelines read it): the two nodes are looked up and the link is appended.
 ghost use mathlib.Core.Path.{_≡_};
 ghost use mathlib.Core.List.{List};
 ghost use Prim.Native.Nat.{ℕ, _+_, _*_, _≤_, _<_};
@@ -19,7 +19,7 @@ use linklines::LinkLine;
 use linklines::LinkNames;
 use linklines::LinkRead;
 use linklines::NamesRead;
-use linklines::PumpRead;
+use pumplines::PumpRead;
 use scope::Counts;
 use scope::Found;
 use scope::Reason;
@@ -205,7 +205,7 @@ pub fn valve_line(
     ensures { λ r. ⌜ ((m : Network) → Holds (now (text .entry)) m s (now (words .entry)) (now (numbers .entry))
         → After (now (text .entry)) (valveStep (fieldsAt (take end (now (text .entry))) at) m) r (now (words .entry)) (now (numbers .entry)) (now (words .exit)) (now (numbers .exit))) ⌝ }
 {
-    let read = linklines::read_valve(&text[..end], at);
+    let read = valvelines::read_valve(&text[..end], at);
     match read {
         LinkRead::Line(line) => store_link(text, line, s, words, numbers),
         LinkRead::NoLine(why) => Kept::Refused(why),
@@ -233,7 +233,7 @@ pub fn pump_line(
     let EndsFound::Both(from, to) = ends else {
         return Kept::Refused(Reason::NotFound);
     };
-    let read = linklines::read_pairs(&text[..end], names.end.end);
+    let read = pumplines::read_pairs(&text[..end], names.end.end);
     match read {
         PumpRead::Pairs(p) => {
             let kind = LinkKind::PumpKind(p);

@@ -10,10 +10,10 @@ use Rattle.takers.specs.Taking.{MayFit}
 use Rattle.takers.proofs.TextLaws.{fits-text}
 use Rattle.tables.proofs.HoldLaws.{count-nodes}
 use Rattle.linklines.specs.Lines.{NamesFit, pumpIn}
-use Rattle.linklines.proofs.NameLaws.{told-names, few-pump}
-use Rattle.linklines.proofs.PumpLaws.{told-pump}
+use Rattle.linklines.proofs.NameLaws.{told-names}
+use Rattle.pumplines.proofs.PumpLaws.{told-pump}
 use Rattle.links.proofs.StoreLaws.{told-ends}
-use Rattle.links.proofs.LineLaws.{names-text, pump-text, pump-no-ends, pump-refused, pump-read}
+use Rattle.links.proofs.LineLaws.{names-text, pump-text, few-pump, pump-no-ends, pump-refused, pump-read}
 use borrow.Author.Needs.{needs}
 use Rattle.links.proofs.pump_line.Statement.{statement}
 use Rattle.links.proofs.pump_line.Tie as tie
@@ -22,7 +22,7 @@ use Rattle.links.proofs.pump_line.Lts as lts
 use Rattle.links.proofs.add_link.Reads as add-link-reads
 use Rattle.links.proofs.find_ends.Reads as find-ends-reads
 use Rattle.linklines.proofs.read_names.Reads as read-names-reads
-use Rattle.linklines.proofs.read_pairs.Reads as read-pairs-reads
+use Rattle.pumplines.proofs.read_pairs.Reads as read-pairs-reads
 
 in-line : (c : tie.After-known-told) → ((fieldsAt (take (c .before .before .before .before .before .before .before .before .args .end) (now (c .before .before .before .before .before .before .before .before .args .text))) (c .before .before .before .before .before .before .before .before .args .at)) ≡ nameIn (take (c .before .before .before .before .before .before .before .before .args .end) (now (c .before .before .before .before .before .before .before .before .args .text))) ((c .before .three .given .0 .0) .id) ∷ nameIn (take (c .before .before .before .before .before .before .before .before .args .end) (now (c .before .before .before .before .before .before .before .before .args .text))) ((c .before .three .given .0 .0) .start) ∷ nameIn (take (c .before .before .before .before .before .before .before .before .args .end) (now (c .before .before .before .before .before .before .before .before .args .text))) ((c .before .three .given .0 .0) .end) ∷ (fieldsAt (take (c .before .before .before .before .before .before .before .before .args .end) (now (c .before .before .before .before .before .before .before .before .args .text))) ((c .before .three .given .0 .0) .end .end))) × NamesFit (take (c .before .before .before .before .before .before .before .before .args .end) (now (c .before .before .before .before .before .before .before .before .args .text))) (c .before .three .given .0 .0)
 in-line c = told-names (take (c .before .before .before .before .before .before .before .before .args .end) (now (c .before .before .before .before .before .before .before .before .args .text))) (fieldsAt (take (c .before .before .before .before .before .before .before .before .args .end) (now (c .before .before .before .before .before .before .before .before .args .text))) (c .before .before .before .before .before .before .before .before .args .at)) (c .before .three .given .1) (c .before .before .before .read-names .ensures)

@@ -14,7 +14,7 @@ use Rattle.links.proofs.valve_line.Statement.{statement}
 use Rattle.links.proofs.valve_line.Tie as tie
 use Rattle.links.proofs.valve_line.Reads as reads
 use Rattle.links.proofs.valve_line.Lts as lts
-use Rattle.linklines.proofs.read_valve.Reads as read-valve-reads
+use Rattle.valvelines.proofs.read_valve.Reads as read-valve-reads
 use Rattle.links.proofs.store_link.Reads as store-link-reads
 
 is-read : (c : tie.After-known-told) → (valveOf (fieldsAt (take (c .before .before .before .before .before .before .before .before .args .end) (now (c .before .before .before .before .before .before .before .before .args .text))) (c .before .before .before .before .before .before .before .before .args .at)) ≡ good (lineIn (take (c .before .before .before .before .before .before .before .before .args .end) (now (c .before .before .before .before .before .before .before .before .args .text))) (c .before .read .given .0 .0))) × NamesFit (take (c .before .before .before .before .before .before .before .before .args .end) (now (c .before .before .before .before .before .before .before .before .args .text))) ((c .before .read .given .0 .0) .names) × KindFits (take (c .before .before .before .before .before .before .before .before .args .end) (now (c .before .before .before .before .before .before .before .before .args .text))) ((c .before .read .given .0 .0) .kind)

@@ -1,10 +1,10 @@
 use mathlib.Core.Path.{sym, _∙_}
 use Rattle.scope.specs.Links.{typeOf}
 use borrow.Author.Needs.{needs}
-use Rattle.linklines.proofs.read_type.Statement.{statement}
-use Rattle.linklines.proofs.read_type.Tie as tie
-use Rattle.linklines.proofs.read_type.Reads as reads
-use Rattle.linklines.proofs.read_type.Lts as lts
+use Rattle.valvelines.proofs.read_type.Statement.{statement}
+use Rattle.valvelines.proofs.read_type.Tie as tie
+use Rattle.valvelines.proofs.read_type.Reads as reads
+use Rattle.valvelines.proofs.read_type.Lts as lts
 use Rattle.letters.proofs.spells.Reads as spells-reads
 
 slice-aggregate-spells : tie.Need-slice-aggregate-spells

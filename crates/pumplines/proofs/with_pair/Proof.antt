@@ -6,14 +6,13 @@ use Rattle.decimals.specs.Numbers.{numberOf}
 use Rattle.scope.specs.Spelling.{wordSpeed, wordHead, wordPower}
 use Rattle.scope.specs.Values.{bad}
 use Rattle.takers.specs.Taking.{reasonIn}
 use Rattle.linklines.specs.Lines.{pumpIn}
-use Rattle.linklines.proofs.NameLaws.{told-word}
-use Rattle.linklines.proofs.PumpLaws.{speed-set, speed-beyond, head-set, power-set, power-beyond, word-unknown}
+use Rattle.pumplines.proofs.PumpLaws.{told-word, speed-set, speed-beyond, head-set, power-set, power-beyond, word-unknown}
 use borrow.Author.Needs.{needs}
-use Rattle.linklines.proofs.with_pair.Statement.{statement}
-use Rattle.linklines.proofs.with_pair.Tie as tie
-use Rattle.linklines.proofs.with_pair.Reads as reads
-use Rattle.linklines.proofs.with_pair.Lts as lts
+use Rattle.pumplines.proofs.with_pair.Statement.{statement}
+use Rattle.pumplines.proofs.with_pair.Tie as tie
+use Rattle.pumplines.proofs.with_pair.Reads as reads
+use Rattle.pumplines.proofs.with_pair.Lts as lts
 use Rattle.decimals.proofs.read_number.Reads as read-number-reads
 use Rattle.letters.proofs.equal.Reads as equal-reads
 use Rattle.fields.proofs.letters_of.Reads as letters-of-reads

@@ -7,21 +7,22 @@ use Rattle.scope.specs.Records.{zeroF}
 use Rattle.scope.specs.Values.{took, good, bad, numberFrom, swallowedFrom}
 use Rattle.scope.specs.Links.{valveOf, typeOf, settingFrom}
 use Rattle.takers.specs.Taking.{tookNumber, reasonIn, optIn, MayFit}
-use Rattle.linklines.specs.Lines.{NamesFit, settingReason}
-use Rattle.linklines.proofs.NameLaws.{told-names, few-valve}
-use Rattle.linklines.proofs.ValveLaws.{told-type, told-setting}
+use Rattle.linklines.specs.Lines.{NamesFit}
+use Rattle.linklines.proofs.NameLaws.{told-names}
+use Rattle.valvelines.specs.Lines.{settingReason}
+use Rattle.valvelines.proofs.ValveLaws.{few-valve, told-type, told-setting}
 use borrow.Author.Needs.{needs}
-use Rattle.linklines.proofs.read_valve.Statement.{statement}
-use Rattle.linklines.proofs.read_valve.Tie as tie
-use Rattle.linklines.proofs.read_valve.Reads as reads
-use Rattle.linklines.proofs.read_valve.Lts as lts
+use Rattle.valvelines.proofs.read_valve.Statement.{statement}
+use Rattle.valvelines.proofs.read_valve.Tie as tie
+use Rattle.valvelines.proofs.read_valve.Reads as reads
+use Rattle.valvelines.proofs.read_valve.Lts as lts
 use Rattle.fields.proofs.letters_of.Reads as letters-of-reads
 use Rattle.fields.proofs.next_field.Reads as next-field-reads
 use Rattle.linklines.proofs.read_names.Reads as read-names-reads
-use Rattle.linklines.proofs.read_type.Reads as read-type-reads
-use Rattle.linklines.proofs.setting_reason.Reads as setting-reason-reads
-use Rattle.linklines.proofs.take_overriding.Reads as take-overriding-reads
-use Rattle.linklines.proofs.take_setting.Reads as take-setting-reads
+use Rattle.valvelines.proofs.read_type.Reads as read-type-reads
+use Rattle.valvelines.proofs.setting_reason.Reads as setting-reason-reads
+use Rattle.valvelines.proofs.take_overriding.Reads as take-overriding-reads
+use Rattle.valvelines.proofs.take_setting.Reads as take-setting-reads
 use Rattle.takers.proofs.reason_of.Reads as reason-of-reads
 use Rattle.takers.proofs.take_number.Reads as take-number-reads
 use Rattle.takers.proofs.take_swallowed.Reads as take-swallowed-reads

@@ -1,26 +1,34 @@
--- The type and the setting of a valve. Assumes nothing.
-use Prim.Native.Nat.{ℕ}
+-- A line of VALVES that lacks a name; the type and the setting of a valve. Assumes nothing.
+use Prim.Native.Nat.{ℕ, _<_}
 use mathlib.Core.Path.{_≡_, refl, subst}
 use mathlib.Core.List.{List, [], _∷_}
+use lib.ListN.{length}
 use types.Run.{OneOf, miss}
 use denote.Enum.Declared.{tagOf}
 use Rattle.fields.specs.Fields.{Name, fieldsAt, Next}
 use Rattle.fields.specs.declared.Field.{Field}
 use Rattle.fields.specs.declared.Field.the-variants.{Taken, Nothing}
 use Rattle.fields.specs.declared.Span.{Span}
+use Rattle.scope.specs.declared.Reason.the-variants.{Missing}
 use Rattle.scope.specs.declared.ValveType.{ValveType}
 use Rattle.scope.specs.declared.ValveType.the-variants.{Gpv, Tcv, Fcv, Prv, Psv, Pbv, Pcv}
 use Rattle.scope.proofs.ValveType.{the-type}
 use Rattle.scope.specs.Records.{zeroF}
-use Rattle.scope.specs.Values.{Took, swallowedFrom}
+use Rattle.scope.specs.Values.{bad, Took, swallowedFrom}
 use Rattle.scope.specs.Links as scope
-use Rattle.scope.specs.Links.{typeOf, settingTook, settingFrom}
+use Rattle.scope.specs.Links.{typeOf, settingTook, settingFrom, valveOf}
 use Rattle.takers.proofs.TakeLaws.{optional, may-fit}
-use Rattle.linklines.specs.Lines.{TypeAs, SettingAs}
-use Rattle.linklines.specs.declared.TypeRead.{TypeRead}
-use Rattle.linklines.specs.declared.TookSetting.{TookSetting}
-use Rattle.linklines.specs.declared.TookSetting.the-variants.{Setting}
+use Rattle.linklines.proofs.NameLaws.{few}
+use Rattle.valvelines.specs.Lines.{TypeAs, SettingAs}
+use Rattle.valvelines.specs.declared.TypeRead.{TypeRead}
+use Rattle.valvelines.specs.declared.TookSetting.{TookSetting}
+use Rattle.valvelines.specs.declared.TookSetting.the-variants.{Setting}
 
+pub few-valve : (fs : List Name) → length fs < 3 → valveOf fs ≡ bad Missing
+unfolding valveOf
+few-valve fs h = few _ fs h
+
+-- what is known of an answer, once it is known which one it is
 pub told-type : {a b : List ℕ} {r r′ : TypeRead} → a ≡ b → r ≡ r′ → TypeAs (typeOf a) r → TypeAs (typeOf b) r′
 told-type {a} {b} {r} {r′} e q h = subst (λ (x : List ℕ). TypeAs (typeOf x) r′) e (subst (λ (x : TypeRead). TypeAs (typeOf a) x) q h)
 

@@ -3,12 +3,12 @@ use mathlib.Core.Path.{sym, ap, _∙_}
 use Rattle.fields.specs.Fields.{fieldsAt}
 use lib.Ieee as Ieee
 use Rattle.takers.specs.Taking.{tookNumber}
-use Rattle.linklines.proofs.ValveLaws.{no-curve-set, curve-set, number-set}
+use Rattle.valvelines.proofs.ValveLaws.{no-curve-set, curve-set, number-set}
 use borrow.Author.Needs.{needs}
-use Rattle.linklines.proofs.take_setting.Statement.{statement}
-use Rattle.linklines.proofs.take_setting.Tie as tie
-use Rattle.linklines.proofs.take_setting.Reads as reads
-use Rattle.linklines.proofs.take_setting.Lts as lts
+use Rattle.valvelines.proofs.take_setting.Statement.{statement}
+use Rattle.valvelines.proofs.take_setting.Tie as tie
+use Rattle.valvelines.proofs.take_setting.Reads as reads
+use Rattle.valvelines.proofs.take_setting.Lts as lts
 use Rattle.fields.proofs.next_field.Reads as next-field-reads
 use Rattle.takers.proofs.take_swallowed.Reads as take-swallowed-reads
 

@@ -8,14 +8,14 @@ use lib.Ieee as Ieee
 use Rattle.scope.specs.Values.{good, bad}
 use Rattle.scope.specs.Links.{withPair}
 use Rattle.takers.specs.Taking.{MayFit}
 use Rattle.linklines.specs.Lines.{pumpIn}
-use Rattle.linklines.proofs.PumpLaws.{told-pump, Pairing, none-left, lone-left, fewer, one-more, pair-refused}
-use Rattle.linklines.proofs.read_pairs.Statement.{statement}
-use Rattle.linklines.proofs.read_pairs.Tie as tie
-use Rattle.linklines.proofs.read_pairs.Reads as reads
-use Rattle.linklines.proofs.read_pairs.Lts as lts
+use Rattle.pumplines.proofs.PumpLaws.{told-pump, Pairing, none-left, lone-left, fewer, one-more, pair-refused}
+use Rattle.pumplines.proofs.read_pairs.Statement.{statement}
+use Rattle.pumplines.proofs.read_pairs.Tie as tie
+use Rattle.pumplines.proofs.read_pairs.Reads as reads
+use Rattle.pumplines.proofs.read_pairs.Lts as lts
 use Rattle.fields.proofs.next_field.Reads as next-field-reads
-use Rattle.linklines.proofs.with_pair.Reads as with-pair-reads
+use Rattle.pumplines.proofs.with_pair.Reads as with-pair-reads
 
 abbrev Inv-loop : tie.InvT-loop
 Inv-loop l at p₀ i₀ p i =

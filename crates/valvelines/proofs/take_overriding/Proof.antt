@@ -1,8 +1,8 @@
 use borrow.Author.Needs.{needs}
-use Rattle.linklines.proofs.take_overriding.Statement.{statement}
-use Rattle.linklines.proofs.take_overriding.Tie as tie
-use Rattle.linklines.proofs.take_overriding.Reads as reads
-use Rattle.linklines.proofs.take_overriding.Lts as lts
+use Rattle.valvelines.proofs.take_overriding.Statement.{statement}
+use Rattle.valvelines.proofs.take_overriding.Tie as tie
+use Rattle.valvelines.proofs.take_overriding.Reads as reads
+use Rattle.valvelines.proofs.take_overriding.Lts as lts
 use Rattle.fields.proofs.next_field.Reads as next-field-reads
 
 next-field-requires : tie.Need-next-field-requires

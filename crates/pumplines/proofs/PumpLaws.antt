@@ -1,8 +1,8 @@
 -- The pairs of a pump. Assumes nothing.
 use Prim.Native.Nat.{ℕ, _<_}
 use native.Mathlib.Omega.{arith}
-use mathlib.Core.Path.{_≡_, ap, _∙_, subst}
-use mathlib.Core.Bool.{true, false}
+use mathlib.Core.Path.{_≡_, sym, ap, _∙_, subst}
+use mathlib.Core.Bool.{Bool, true, false}
 use mathlib.Core.List.{List, [], _∷_}
 use mathlib.Core.Option.{some}
 use lib.ListN.{length}
@@ -20,10 +20,11 @@ use Rattle.scope.specs.Values.{Read, good, bad, took, refused, asSwallowed}
 use Rattle.scope.specs.Links.{oneF, noPump, withPair, pumpFrom}
 use Rattle.takers.specs.Taking.{swallowTook, MayFit}
 use Rattle.takers.specs.declared.TookNumber.the-variants.{Number, NoNumber}
-use Rattle.linklines.specs.Lines.{pumpIn, PumpAs}
+use Rattle.linklines.specs.Lines.{pumpIn}
 use Rattle.linklines.specs.declared.Pump.{Pump}
-use Rattle.linklines.specs.declared.PumpRead.{PumpRead}
-use Rattle.linklines.specs.declared.PumpRead.the-variants.{Pairs}
+use Rattle.pumplines.specs.Lines.{PumpAs}
+use Rattle.pumplines.specs.declared.PumpRead.{PumpRead}
+use Rattle.pumplines.specs.declared.PumpRead.the-variants.{Pairs}
 
 -- a number that is swallowed: what was taken, or why it was refused
 swallow-took : (d : Float) (n : N.Number) (next y : ℕ) (x : Float) (fs : List Name) → swallowTook d n next ≡ Number x y → asSwallowed d n fs ≡ took x fs
@@ -35,6 +36,10 @@ swallow-refused : (d : Float) (n : N.Number) (next : ℕ) (why : Reason) (fs : L
 swallow-refused d (number.Value z) next why fs e = absurd (let z : _≡_ {A = ℕ} 0 1 = cc in omega arith)
 swallow-refused d number.Malformed next why fs e = absurd (let z : _≡_ {A = ℕ} 0 1 = cc in omega arith)
 swallow-refused d number.Beyond next why fs e = cc
+
+-- a test of a word that is part of the line
+pub told-word : (w : List ℕ) {a b : List ℕ} {r t : Bool} → a ≡ b → r ≡ same a w → r ≡ t → same b w ≡ t
+told-word w e h k = rw (← e) (sym h ∙ k)
 
 -- what a word and its value make of a pump
 module _ (p : records.Pump) (w v : Name) where

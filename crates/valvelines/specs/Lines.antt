@@ -1,0 +1,32 @@
+-- The code's answers as what document 01 says of the type, the setting and the curve of a valve. Assumes nothing.
+use Prim.Native.Nat.{ℕ}
+use mathlib.Core.Path.{_≡_}
+use mathlib.Core.List.{List}
+use Rattle.fields.specs.Fields.{Name, fieldsAt}
+use Rattle.fields.specs.declared.Field.{Field}
+use Rattle.scope.specs.declared.Reason.{Reason}
+use Rattle.scope.specs.declared.Reason.the-variants.{Missing, Unknown}
+use Rattle.scope.specs.declared.ValveType.{ValveType}
+use Rattle.scope.specs.Values.{Read, good, bad, Took, took, refused}
+use Rattle.scope.specs.Links as scope
+use Rattle.takers.specs.Taking.{optIn, MayFit}
+use Rattle.valvelines.specs.declared.TypeRead.{TypeRead}
+use Rattle.valvelines.specs.declared.TypeRead.the-variants as type
+use Rattle.valvelines.specs.declared.TookSetting.{TookSetting}
+use Rattle.valvelines.specs.declared.TookSetting.the-variants.{Setting, NoSetting}
+
+abbrev pub TypeAs : Read ValveType → TypeRead → Type 0
+TypeAs o (type.Type t) = o ≡ good t
+TypeAs o type.NoType = o ≡ bad Unknown
+
+abbrev pub SettingAs : List ℕ → Took scope.Setting → TookSetting → Type 0
+SettingAs l o (Setting x c next) = (o ≡ took (record { value = x; curve = optIn l c }) (fieldsAt l next)) × MayFit l c
+SettingAs l o (NoSetting why) = o ≡ refused why
+
+abbrev pub settingReason : TookSetting → Reason
+settingReason (Setting x c next) = Missing
+settingReason (NoSetting why) = why
+
+pub record OverridingAs (l : List ℕ) (fs : List Name) (own r : Field) : Type 0 where
+  pub is : scope.overriding fs (optIn l own) ≡ optIn l r
+  pub fits : MayFit l own → MayFit l r

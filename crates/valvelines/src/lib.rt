@@ -1,0 +1,138 @@
+// Reads a line of VALVES: the fields in order, and what they say. Nothing is looked up or stored here.
+ghost use mathlib.Core.Path.{_≡_};
+ghost use Rattle.fields.specs.Fields.{fieldsAt};
+ghost use Rattle.scope.specs.Links.{typeOf, settingFrom, valveOf};
+ghost use Rattle.linklines.specs.Lines.{LinkAs};
+ghost use Rattle.valvelines.specs.Lines.{TypeAs, SettingAs, settingReason, OverridingAs};
+use fields::Field;
+use linklines::LinkKind;
+use linklines::LinkLine;
+use linklines::LinkRead;
+use linklines::NamesRead;
+use linklines::Valve;
+use scope::Reason;
+use scope::ValveType;
+use takers::TookNumber;
+
+pub enum TypeRead {
+    Type(ValveType),
+    NoType,
+}
+
+// A setting, the curve that stands in its place, and where its field ends.
+pub enum TookSetting {
+    Setting(f64, Field, usize),
+    NoSetting(Reason),
+}
+
+// A valve's type, in any case.
+fn read_type(word: &[u8]) -> TypeRead
+    ensures { λ r. ⌜ TypeAs (typeOf (now (word .entry))) r ⌝ }
+{
+    if letters::spells(word, b"GPV") {
+        return TypeRead::Type(ValveType::Gpv);
+    }
+    if letters::spells(word, b"TCV") {
+        return TypeRead::Type(ValveType::Tcv);
+    }
+    if letters::spells(word, b"FCV") {
+        return TypeRead::Type(ValveType::Fcv);
+    }
+    if letters::spells(word, b"PRV") {
+        return TypeRead::Type(ValveType::Prv);
+    }
+    if letters::spells(word, b"PSV") {
+        return TypeRead::Type(ValveType::Psv);
+    }
+    if letters::spells(word, b"PBV") {
+        return TypeRead::Type(ValveType::Pbv);
+    }
+    if letters::spells(word, b"PCV") {
+        return TypeRead::Type(ValveType::Pcv);
+    }
+    TypeRead::NoType
+}
+
+// A number; for a GPV a curve.
+fn take_setting(l: &[u8], at: usize, kind: ValveType) -> TookSetting
+    ensures { λ r. ⌜ SettingAs (now (l .entry)) (settingFrom kind (fieldsAt (now (l .entry)) at)) r ⌝ }
+{
+    if let ValveType::Gpv = kind {
+        let curve = fields::next_field(l, at);
+        let Field::Taken(named) = curve else {
+            return TookSetting::Setting(0.0, curve, at);
+        };
+        return TookSetting::Setting(0.0, curve, named.end);
+    }
+    let t = takers::take_swallowed(l, at, 0.0);
+    match t {
+        TookNumber::Number(x, next) => {
+            let none = Field::Nothing;
+            TookSetting::Setting(x, none, next)
+        }
+        TookNumber::NoNumber(why) => TookSetting::NoSetting(why),
+    }
+}
+
+// Why no setting was taken.
+fn setting_reason(t: TookSetting) -> Reason
+    ensures { λ r. ⌜ r ≡ settingReason t ⌝ }
+{
+    match t {
+        TookSetting::Setting(_, _, _) => Reason::Missing,
+        TookSetting::NoSetting(why) => why,
+    }
+}
+
+// The curve at `at`, which overrides the valve's own.
+fn take_overriding(l: &[u8], at: usize, own: Field) -> Field
+    ensures { λ r. ⌜ OverridingAs (now (l .entry)) (fieldsAt (now (l .entry)) at) own r ⌝ }
+{
+    let f = fields::next_field(l, at);
+    match f {
+        Field::Taken(s) => Field::Taken(s),
+        Field::Nothing => own,
+    }
+}
+
+// Id, two nodes, diameter, type, setting, minor loss, a curve.
+pub fn read_valve(l: &[u8], at: usize) -> LinkRead
+    ensures { λ r. ⌜ LinkAs (now (l .entry)) (valveOf (fieldsAt (now (l .entry)) at)) r ⌝ }
+{
+    let three = linklines::read_names(l, at);
+    let NamesRead::Names(names) = three else {
+        return LinkRead::NoLine(Reason::Missing);
+    };
+    let first = takers::take_number(l, names.end.end);
+    let TookNumber::Number(diameter, at2) = first else {
+        return LinkRead::NoLine(takers::reason_of(first));
+    };
+    let f = fields::next_field(l, at2);
+    let Field::Taken(word) = f else {
+        return LinkRead::NoLine(Reason::Missing);
+    };
+    let known = read_type(fields::letters_of(l, word));
+    let TypeRead::Type(kind) = known else {
+        return LinkRead::NoLine(Reason::Unknown);
+    };
+    let second = take_setting(l, word.end, kind);
+    let TookSetting::Setting(setting, own, at3) = second else {
+        return LinkRead::NoLine(setting_reason(second));
+    };
+    let third = takers::take_swallowed(l, at3, 0.0);
+    let TookNumber::Number(minor, at4) = third else {
+        return LinkRead::NoLine(takers::reason_of(third));
+    };
+    let curve = take_overriding(l, at4, own);
+    let valve = Valve {
+        kind,
+        diameter,
+        setting,
+        minor,
+        curve,
+    };
+    LinkRead::Line(LinkLine {
+        names,
+        kind: LinkKind::ValveKind(valve),
+    })
+}
