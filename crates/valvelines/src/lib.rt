@@ -1,12 +1,13 @@
 // Reads a line of VALVES: the fields in order, and what they say. Nothing is looked up or stored here.
 ghost use mathlib.Core.Path.{_≡_};
-ghost use Rattle.fields.specs.Fields.{fieldsAt};
+ghost use Rattle.fields.specs.Fields.{fieldsAt, nameIn};
 ghost use Rattle.scope.specs.Links.{typeOf, settingFrom, valveOf};
-ghost use Rattle.linklines.specs.Lines.{LinkAs};
-ghost use Rattle.valvelines.specs.Lines.{TypeAs, SettingAs, settingReason, OverridingAs};
+ghost use Rattle.linklines.specs.Lines.{NamesFit, LinkAs};
+ghost use Rattle.valvelines.specs.Lines.{pressureOrPosition, TypeAs, SettingAs, settingReason, OverridingAs, valveAfterType};
 use fields::Field;
 use linklines::LinkKind;
 use linklines::LinkLine;
+use linklines::LinkNames;
 use linklines::LinkRead;
 use linklines::NamesRead;
 use linklines::Valve;
@@ -25,19 +26,10 @@ pub enum TookSetting {
     NoSetting(Reason),
 }
 
-// A valve's type, in any case.
-fn read_type(word: &[u8]) -> TypeRead
-    ensures { λ r. ⌜ TypeAs (typeOf (now (word .entry))) r ⌝ }
+// A valve that keeps a pressure (PRV, PSV, PBV) or a position (PCV), in any case.
+fn read_pressure_or_position(word: &[u8]) -> TypeRead
+    ensures { λ r. ⌜ TypeAs (pressureOrPosition (now (word .entry))) r ⌝ }
 {
-    if letters::spells(word, b"GPV") {
-        return TypeRead::Type(ValveType::Gpv);
-    }
-    if letters::spells(word, b"TCV") {
-        return TypeRead::Type(ValveType::Tcv);
-    }
-    if letters::spells(word, b"FCV") {
-        return TypeRead::Type(ValveType::Fcv);
-    }
     if letters::spells(word, b"PRV") {
         return TypeRead::Type(ValveType::Prv);
     }
@@ -51,6 +43,22 @@ fn read_type(word: &[u8]) -> TypeRead
         return TypeRead::Type(ValveType::Pcv);
     }
     TypeRead::NoType
+}
+
+// A valve's type, in any case.
+fn read_type(word: &[u8]) -> TypeRead
+    ensures { λ r. ⌜ TypeAs (typeOf (now (word .entry))) r ⌝ }
+{
+    if letters::spells(word, b"GPV") {
+        return TypeRead::Type(ValveType::Gpv);
+    }
+    if letters::spells(word, b"TCV") {
+        return TypeRead::Type(ValveType::Tcv);
+    }
+    if letters::spells(word, b"FCV") {
+        return TypeRead::Type(ValveType::Fcv);
+    }
+    read_pressure_or_position(word)
 }
 
 // A number; for a GPV a curve.
@@ -95,6 +103,39 @@ fn take_overriding(l: &[u8], at: usize, own: Field) -> Field
     }
 }
 
+// Setting, minor loss, a curve: what stands after the type.
+fn read_after_type(
+    l: &[u8],
+    at: usize,
+    names: LinkNames,
+    diameter: f64,
+    kind: ValveType,
+) -> LinkRead
+    ensures { λ r. ⌜ (NamesFit (now (l .entry)) names
+        → LinkAs (now (l .entry)) (valveAfterType (nameIn (now (l .entry)) (names .id)) (nameIn (now (l .entry)) (names .start)) (nameIn (now (l .entry)) (names .end)) diameter kind (fieldsAt (now (l .entry)) at)) r) ⌝ }
+{
+    let first = take_setting(l, at, kind);
+    let TookSetting::Setting(setting, own, at2) = first else {
+        return LinkRead::NoLine(setting_reason(first));
+    };
+    let second = takers::take_swallowed(l, at2, 0.0);
+    let TookNumber::Number(minor, at3) = second else {
+        return LinkRead::NoLine(takers::reason_of(second));
+    };
+    let curve = take_overriding(l, at3, own);
+    let valve = Valve {
+        kind,
+        diameter,
+        setting,
+        minor,
+        curve,
+    };
+    LinkRead::Line(LinkLine {
+        names,
+        kind: LinkKind::ValveKind(valve),
+    })
+}
+
 // Id, two nodes, diameter, type, setting, minor loss, a curve.
 pub fn read_valve(l: &[u8], at: usize) -> LinkRead
     ensures { λ r. ⌜ LinkAs (now (l .entry)) (valveOf (fieldsAt (now (l .entry)) at)) r ⌝ }
@@ -115,24 +156,5 @@ pub fn read_valve(l: &[u8], at: usize) -> LinkRead
     let TypeRead::Type(kind) = known else {
         return LinkRead::NoLine(Reason::Unknown);
     };
-    let second = take_setting(l, word.end, kind);
-    let TookSetting::Setting(setting, own, at3) = second else {
-        return LinkRead::NoLine(setting_reason(second));
-    };
-    let third = takers::take_swallowed(l, at3, 0.0);
-    let TookNumber::Number(minor, at4) = third else {
-        return LinkRead::NoLine(takers::reason_of(third));
-    };
-    let curve = take_overriding(l, at4, own);
-    let valve = Valve {
-        kind,
-        diameter,
-        setting,
-        minor,
-        curve,
-    };
-    LinkRead::Line(LinkLine {
-        names,
-        kind: LinkKind::ValveKind(valve),
-    })
+    read_after_type(l, word.end, names, diameter, kind)
 }

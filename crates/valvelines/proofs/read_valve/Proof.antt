@@ -2,15 +2,13 @@ use denote.Ref.{now}
 use mathlib.Core.Path.{_≡_, sym, ap, _∙_}
 use mathlib.Core.List.{_∷_}
 use Rattle.fields.specs.Fields.{Fits, fieldsAt, nameIn}
-use lib.Ieee as Ieee
-use Rattle.scope.specs.Records.{zeroF}
-use Rattle.scope.specs.Values.{took, good, bad, numberFrom, swallowedFrom}
-use Rattle.scope.specs.Links.{valveOf, typeOf, settingFrom}
-use Rattle.takers.specs.Taking.{tookNumber, reasonIn, optIn, MayFit}
+use Rattle.scope.specs.Values.{took, good, bad, numberFrom}
+use Rattle.scope.specs.Links.{valveOf, typeOf}
+use Rattle.takers.specs.Taking.{tookNumber, reasonIn}
 use Rattle.linklines.specs.Lines.{NamesFit}
 use Rattle.linklines.proofs.NameLaws.{told-names}
-use Rattle.valvelines.specs.Lines.{settingReason}
-use Rattle.valvelines.proofs.ValveLaws.{few-valve, told-type, told-setting}
+use Rattle.valvelines.specs.Lines.{valveAfterType}
+use Rattle.valvelines.proofs.ValveLaws.{few-valve, told-type}
 use borrow.Author.Needs.{needs}
 use Rattle.valvelines.proofs.read_valve.Statement.{statement}
 use Rattle.valvelines.proofs.read_valve.Tie as tie
@@ -19,13 +17,10 @@ use Rattle.valvelines.proofs.read_valve.Lts as lts
 use Rattle.fields.proofs.letters_of.Reads as letters-of-reads
 use Rattle.fields.proofs.next_field.Reads as next-field-reads
 use Rattle.linklines.proofs.read_names.Reads as read-names-reads
-use Rattle.valvelines.proofs.read_type.Reads as read-type-reads
-use Rattle.valvelines.proofs.setting_reason.Reads as setting-reason-reads
-use Rattle.valvelines.proofs.take_overriding.Reads as take-overriding-reads
-use Rattle.valvelines.proofs.take_setting.Reads as take-setting-reads
 use Rattle.takers.proofs.reason_of.Reads as reason-of-reads
 use Rattle.takers.proofs.take_number.Reads as take-number-reads
-use Rattle.takers.proofs.take_swallowed.Reads as take-swallowed-reads
+use Rattle.valvelines.proofs.read_after_type.Reads as read-after-type-reads
+use Rattle.valvelines.proofs.read_type.Reads as read-type-reads
 
 s1 : (c : tie.After-known-told) → (fieldsAt (now (c .before .before .before .before .before .args .l)) (c .before .before .before .before .before .args .at) ≡ nameIn (now (c .before .before .before .before .before .args .l)) (c .before .three .given .0 .0 .id) ∷ nameIn (now (c .before .before .before .before .before .args .l)) (c .before .three .given .0 .0 .start) ∷ nameIn (now (c .before .before .before .before .before .args .l)) (c .before .three .given .0 .0 .end) ∷ fieldsAt (now (c .before .before .before .before .before .args .l)) (c .before .three .given .0 .0 .end .end)) × NamesFit (now (c .before .before .before .before .before .args .l)) (c .before .three .given .0 .0)
 s1 c = told-names (now (c .before .before .before .before .before .args .l)) (fieldsAt (now (c .before .before .before .before .before .args .l)) (c .before .before .before .before .before .args .at)) (c .before .three .given .1) (c .before .before .before .read-names .ensures)
@@ -38,13 +33,6 @@ s3 c = c .before .before .before .next-field .ensures .taken _ (c .before .f .gi
 
 s4 : (c : tie.After-known-told4) → typeOf (nameIn (now (c .before .before .before .before .before .before .before .before .before .before .before .before .before .before .before .before .before .before .args .l)) (c .before .before .before .before .before .before .f .given .0 .0) .letters) ≡ good (c .before .known .given .0 .0)
 s4 c = told-type (c .before .before .before .before .letters-of .ensures) (c .before .known .given .1) (c .before .before .before .read-type .ensures)
-
-s5 : (c : tie.After-known-told5) → ((settingFrom (c .before .before .before .before .before .known .given .0 .0) (fieldsAt (now (c .before .before .before .before .before .before .before .before .before .before .before .before .before .before .before .before .before .before .before .before .before .before .args .l)) (c .before .before .before .before .before .before .before .before .before .before .f .given .0 .0 .end))) ≡ took (record { value = c .before .second .given .0 .0; curve = optIn (now (c .before .before .before .before .before .before .before .before .before .before .before .before .before .before .before .before .before .before .before .before .before .before .args .l)) (c .before .second .given .0 .1 .0) }) (fieldsAt (now (c .before .before .before .before .before .before .before .before .before .before .before .before .before .before .before .before .before .before .before .before .before .before .args .l)) (c .before .second .given .0 .1 .1 .0))) × MayFit (now (c .before .before .before .before .before .before .before .before .before .before .before .before .before .before .before .before .before .before .before .before .before .before .args .l)) (c .before .second .given .0 .1 .0)
-s5 c = told-setting (now (c .before .before .before .before .before .before .before .before .before .before .before .before .before .before .before .before .before .before .before .before .before .before .args .l)) (settingFrom (c .before .before .before .before .before .known .given .0 .0) (fieldsAt (now (c .before .before .before .before .before .before .before .before .before .before .before .before .before .before .before .before .before .before .before .before .before .before .args .l)) (c .before .before .before .before .before .before .before .before .before .before .f .given .0 .0 .end))) (c .before .second .given .1) (c .before .before .before .take-setting .ensures)
-
-s6 : (c : tie.After-known-told6) → swallowedFrom zeroF (fieldsAt (now (c .before .before .before .before .before .before .before .before .before .before .before .before .before .before .before .before .before .before .before .before .before .before .before .before .before .before .args .l)) (c .before .before .before .before .before .second .given .0 .1 .1 .0)) ≡ took (c .before .third .given .0 .0) (fieldsAt (now (c .before .before .before .before .before .before .before .before .before .before .before .before .before .before .before .before .before .before .before .before .before .before .before .before .before .before .args .l)) (c .before .third .given .0 .1 .0))
-unfolding Ieee.ofBits
-s6 c = sym (c .before .before .before .take-swallowed .ensures) ∙ ap (tookNumber (now (c .before .before .before .before .before .before .before .before .before .before .before .before .before .before .before .before .before .before .before .before .before .before .before .before .before .before .args .l))) (c .before .third .given .1)
 
 read-names-requires : tie.Need-read-names-requires
 read-names-requires c κs = search needs
@@ -104,44 +92,12 @@ returns-4 : tie.Need-returns-4
 unfolding valveOf
 returns-4 c = rw (s1 (c .before .before .before .before .before .before .before .before .before .before .before .before) .0, s2 (c .before .before .before .before .before .before .before .before), s3 (c .before .before .before .before) .0, told-type (c .before .before .before .letters-of .ensures) (c .enum-told4 .given .1) (c .before .before .read-type .ensures))
 
-take-setting-requires : tie.Need-take-setting-requires
-take-setting-requires c κs = search needs
-
-enum-known-second : tie.Need-enum-known-second
-enum-known-second c = search needs
-
-enum-told-5 : tie.Need-enum-told-5
-enum-told-5 c = search needs
-
-setting-reason-requires : tie.Need-setting-reason-requires
-setting-reason-requires c κs = search needs
+read-after-type-requires : tie.Need-read-after-type-requires
+read-after-type-requires c κs = search needs
 
 returns-5 : tie.Need-returns-5
-unfolding valveOf
-returns-5 c = rw (s1 (c .before .before .before .before .before .before .before .before .before .before .before .before .before .before .before .before .before) .0, s2 (c .before .before .before .before .before .before .before .before .before .before .before .before .before), s3 (c .before .before .before .before .before .before .before .before .before) .0, s4 (c .before .before .before .before), told-setting (now (c .before .before .before .before .before .before .before .before .before .before .before .before .before .before .before .before .before .before .before .before .before .before .args .l)) (settingFrom (c .before .before .before .before .before .known .given .0 .0) (fieldsAt (now (c .before .before .before .before .before .before .before .before .before .before .before .before .before .before .before .before .before .before .before .before .before .before .args .l)) (c .before .before .before .before .before .before .before .before .before .before .f .given .0 .0 .end))) (c .before .enum-told5 .given .1) (c .before .before .before .take-setting .ensures)) (ap bad (sym (c .setting-reason .ensures ∙ ap settingReason (c .before .enum-told5 .given .1))))
-
-take-swallowed-requires : tie.Need-take-swallowed-requires
-take-swallowed-requires c κs = search needs
-
-enum-known-third : tie.Need-enum-known-third
-enum-known-third c = search needs
-
-enum-told-6 : tie.Need-enum-told-6
-enum-told-6 c = search needs
-
-reason-of-requires-2 : tie.Need-reason-of-requires-2
-reason-of-requires-2 c κs = search needs
-
-returns-6 : tie.Need-returns-6
-unfolding valveOf Ieee.ofBits
-returns-6 c = rw (s1 (c .before .before .before .before .before .before .before .before .before .before .before .before .before .before .before .before .before .before .before .before .before) .0, s2 (c .before .before .before .before .before .before .before .before .before .before .before .before .before .before .before .before .before), s3 (c .before .before .before .before .before .before .before .before .before .before .before .before .before) .0, s4 (c .before .before .before .before .before .before .before .before), s5 (c .before .before .before .before) .0, sym (c .before .before .before .take-swallowed .ensures) ∙ ap (tookNumber (now (c .before .before .before .before .before .before .before .before .before .before .before .before .before .before .before .before .before .before .before .before .before .before .before .before .before .before .args .l))) (c .before .enum-told6 .given .1)) (ap bad (sym (c .reason-of2 .ensures ∙ ap reasonIn (c .before .enum-told6 .given .1))))
-
-take-overriding-requires : tie.Need-take-overriding-requires
-take-overriding-requires c κs = search needs
-
-returns-7 : tie.Need-returns-7
-unfolding valveOf Ieee.ofBits
-returns-7 c = (rw (s1 (c .before .before .before .before .before .before .before .before .before .before .before .before .before .before .before .before .before .before .before .before .before .before) .0, s2 (c .before .before .before .before .before .before .before .before .before .before .before .before .before .before .before .before .before .before), s3 (c .before .before .before .before .before .before .before .before .before .before .before .before .before .before) .0, s4 (c .before .before .before .before .before .before .before .before .before), s5 (c .before .before .before .before .before) .0, s6 (c .before), c .take-overriding .ensures .is), s1 (c .before .before .before .before .before .before .before .before .before .before .before .before .before .before .before .before .before .before .before .before .before .before) .1, c .take-overriding .ensures .fits (s5 (c .before .before .before .before .before) .1))
+unfolding valveOf valveAfterType
+returns-5 c = rw (s1 (c .before .before .before .before .before .before .before .before .before .before .before .before .before .before) .0, s2 (c .before .before .before .before .before .before .before .before .before .before), s3 (c .before .before .before .before .before .before) .0, s4 (c .before)) (c .read-after-type .ensures (s1 (c .before .before .before .before .before .before .before .before .before .before .before .before .before .before) .1))
 
 pub read-valve-spec : {M : Type 1} → statement M
 read-valve-spec =
@@ -165,15 +121,5 @@ read-valve-spec =
     enum-known-known
     enum-told-4
     returns-4
-    take-setting-requires
-    enum-known-second
-    enum-told-5
-    setting-reason-requires
-    returns-5
-    take-swallowed-requires
-    enum-known-third
-    enum-told-6
-    reason-of-requires-2
-    returns-6
-    take-overriding-requires
-    returns-7)
+    read-after-type-requires
+    returns-5)
