@@ -109,7 +109,7 @@ fn show_rule(text: &[u8], words: &[u64], numbers: &[f64], i: usize) {
 }
 
 fn show_rules(text: &[u8], words: &[u64], numbers: &[f64]) {
-    let counts = stored::counts_at(words);
+    let counts = storedcounts::counts_at(words);
     let all = counts.rules;
     let mut i = 0;
     while i < all {
@@ -167,7 +167,7 @@ fn show_link(text: &[u8], words: &[u64], numbers: &[f64], i: usize) -> u64
 
 // How many are left out.
 fn show_links(text: &[u8], words: &[u64], numbers: &[f64]) -> u64 {
-    let counts = stored::counts_at(words);
+    let counts = storedcounts::counts_at(words);
     let all = counts.links;
     let mut left = 0;
     let mut i = 0;

@@ -148,7 +148,7 @@ fn clause_count(words: &[u64]) -> usize
     ensures { λ r. ⌜ r ≤ 512 ⌝ }
     ensures { λ r. ⌜ ((m : Network) (f : List Float) → Tallied m (now (words .entry)) f → r ≡ length (m .clauses)) ⌝ }
 {
-    let counts = stored::counts_at(words);
+    let counts = storedcounts::counts_at(words);
     least(counts.clauses, ROOM_CLAUSES)
 }
 
@@ -157,7 +157,7 @@ fn link_count(words: &[u64]) -> usize
     ensures { λ r. ⌜ r ≤ 256 ⌝ }
     ensures { λ r. ⌜ ((m : Network) (f : List Float) → Tallied m (now (words .entry)) f → r ≡ length (m .links)) ⌝ }
 {
-    let counts = stored::counts_at(words);
+    let counts = storedcounts::counts_at(words);
     least(counts.links, ROOM_LINKS)
 }
 

@@ -1,37 +1,37 @@
--- What is read from a record's words and numbers is the record. Assumes nothing.
+-- What is read from the words and numbers of a node, link, rule or clause is the record. Assumes nothing.
 use Prim.Native.Nat.{ℕ, _+_, _-_, _*_, _≤_, _<_}
 use native.Mathlib.Omega.{arith}
 use native.Mathlib.Nat.{add-zero}
 use mathlib.Core.Path.{_≡_, refl, sym, ap, _∙_}
 use mathlib.Core.Logic.{inl, inr}
-use mathlib.Core.List.{List, _++_}
+use mathlib.Core.List.{List}
 use mathlib.Core.Option.{Option, none, some}
-use lib.ListN.{length, getD, take, drop, replicate, length-append, length-drop, List·getD-eq-default}
-use lib.Seq.{getD-drop, getD-take}
+use lib.ListN.{length, getD, take, replicate, List·getD-eq-default}
+use lib.Seq.{getD-take}
 use lib.Ieee.{Float, nan}
 use Rattle.fields.specs.Fields.{Name}
-use Rattle.scope.specs.Records.{Network, Node, NodeKind, junction, reservoir, tank, Reservoir, Tank, Place, Link, LinkKind, pipe, pump, valve, Pump, Valve, Demand, Rule, Clause, condition, action, Condition, noNode, noName, zeroF, countsOf}
+use Rattle.scope.specs.Records.{Network, Node, NodeKind, junction, reservoir, tank, Reservoir, Tank, Place, Link, LinkKind, pipe, pump, valve, Pump, Valve, Rule, Clause, condition, action, Condition, noNode, zeroF}
 use Rattle.scope.specs.Rules.{noLink}
-use Rattle.scope.specs.Tables.{packed, idWords, nodeWords, nodeNumbers, linkWords, linkNumbers, pointNumbers, demandWords, ruleWords, clauseWords, clauseNumbers, recordWords, roomWords, roomNumbers, tallyWords}
-use Rattle.scope.specs.declared.Counts.{Counts}
-use Rattle.tables.specs.Layout.{nodesAt, linksAt, curvesAt, pointsAt, patternsAt, multipliersAt, demandsAt, timesAt, rulesAt, clausesAt, nodeSize, linkSize, idSize, demandSize, timeSize, ruleSize, clauseSize, nodeNumbersAt, linkNumbersAt, pointNumbersAt, multiplierNumbersAt, demandNumbersAt, clauseNumbersAt, nodeNumbersSize, linkNumbersSize, pointNumbersSize}
-use Rattle.tables.specs.Holding.{noDemand, noRule}
-use Rattle.codes.proofs.CodeLaws.{flag-back, found-back, pipe-status-back, type-back, target-back, comparison-back, operator-back, value-back, amount-back}
-use Rattle.codes.specs.Codes.{spanFrom, amountFrom, amountOf}
-use Rattle.stored.specs.Back.{Stands, noPoint, noMultiplier, noClause, clauseBy, nodeBack, linkBack, curveBack, patternBack, pointBack, multiplierBack, demandBack, ruleBack, clauseBack}
-use Rattle.stored.proofs.Whole.{nodeBy, linkBy, curveBy, patternBy, pointBy, multiplierBy, demandBy, ruleBy, countsBy}
+use Rattle.scope.specs.Tables.{packed, nodeWords, nodeNumbers, linkWords, linkNumbers, ruleWords, clauseWords, clauseNumbers, recordWords, roomNumbers}
+use Rattle.tables.specs.Layout.{nodesAt, linksAt, rulesAt, clausesAt, nodeSize, linkSize, ruleSize, clauseSize, nodeNumbersAt, linkNumbersAt, clauseNumbersAt, nodeNumbersSize, linkNumbersSize}
+use Rattle.tables.specs.Holding.{noRule}
+use Rattle.codes.proofs.CodeLaws.{flag-back, found-back, pipe-status-back, type-back, target-back, comparison-back, operator-back, value-back}
+use Rattle.codes.specs.Codes.{spanFrom}
+use Rattle.stored.specs.Back.{Stands, noClause, clauseBy, nodeBack, linkBack, ruleBack, clauseBack}
+use Rattle.stored.proofs.Whole.{nodeBy, linkBy, ruleBy}
 use Rattle.decimals.proofs.Whole.{le-or-lt}
-use Rattle.tables.proofs.SizeLaws.{node-words-lie, link-words-lie, curve-words-lie, point-words-lie, pattern-words-lie, multiplier-words-lie, demand-words-lie, rule-words-lie, clause-words-lie, node-numbers-lie, link-numbers-lie, point-numbers-lie, multiplier-numbers-lie, demand-numbers-lie, clause-numbers-lie}
-use Rattle.tables.proofs.ReadLaws.{one-place, node-word, link-word, time-word, clause-word, node-number, link-number, clause-number}
+use Rattle.tables.proofs.SizeLaws.{node-words-lie, link-words-lie, rule-words-lie, clause-words-lie, node-numbers-lie, link-numbers-lie, clause-numbers-lie}
+use Rattle.tables.proofs.ReadLaws.{one-place, node-word, link-word, clause-word, node-number, link-number, clause-number}
 use Rattle.stored.proofs.PastLaws.{past-word, any-word}
 
--- ---- nodes
-abbrev wordsIn : List ℕ → ℕ → ℕ
+-- ---- the words and the numbers of a record
+abbrev pub wordsIn : List ℕ → ℕ → ℕ
 wordsIn l j = getD l j 0
 
-abbrev numbersIn : List Float → ℕ → Float
+abbrev pub numbersIn : List Float → ℕ → Float
 numbersIn l j = getD l j nan
 
+-- ---- nodes
 abbrev reservoirOf : Reservoir → Option Name → Option ℕ → NodeKind
 reservoirOf r n o = reservoir (record { elevation = r .elevation; pattern = n; index = o })
 
@@ -104,17 +104,7 @@ clause-back : (c : Clause) → clauseBy (wordsIn (clauseWords c)) (numbersIn (cl
 clause-back (condition c) = condition-back c (c .name)
 clause-back (action a) = rw (value-back (a .value), flag-back (a .otherwise))
 
--- ---- series and times
-demand-back : (d : Demand) (n : Option Name) → let e : Demand = record { node = d .node; own = d .own; base = d .base; pattern = n; index = d .index } in
-    demandBy (wordsIn (demandWords e)) (e .base) ≡ demandBack e
-demand-back d none = rw (flag-back (d .own), found-back (d .index))
-demand-back d (some n) = rw (flag-back (d .own), found-back (d .index))
-
 -- ---- what stands past the end is zeros
-no-id : idWords noName ≡ replicate 3 0
-unfolding packed
-no-id = refl
-
 no-rule : ruleWords noRule ≡ replicate 7 0
 unfolding packed
 no-rule = refl
@@ -124,27 +114,28 @@ no-rule = refl
 pub span-first : (w : List ℕ) (a : ℕ) → spanFrom (getD w a 0) (getD w (a + 1) 0) ≡ spanFrom (getD w (a + 0) 0) (getD w (a + 1) 0)
 span-first w a = ap (λ (n : ℕ). spanFrom (getD w n 0) (getD w (a + 1) 0)) (sym (add-zero a))
 
+-- a place within the rooms, in tables that may be longer
+pub word : (w : List ℕ) (at : ℕ) → at < recordWords → getD w at 0 ≡ getD (take recordWords w) at 0
+word w at h = sym (getD-take recordWords w at 0 h)
+
+pub number : (f : List Float) (at : ℕ) → at < roomNumbers → getD f at nan ≡ getD (take roomNumbers f) at nan
+number f at h = sym (getD-take roomNumbers f at nan h)
+
 module _ {m : Network} {w : List ℕ} {f : List Float} (g : Stands m w f) (i : ℕ) where
-  word : (at : ℕ) → at < recordWords → getD w at 0 ≡ getD (take recordWords w) at 0
-  word at h = sym (getD-take recordWords w at 0 h)
-
-  number : (at : ℕ) → at < roomNumbers → getD f at nan ≡ getD (take roomNumbers f) at nan
-  number at h = sym (getD-take roomNumbers f at nan h)
-
   abbrev NodeIs : Type 0
   NodeIs = nodeBy (λ j. getD w (nodesAt + i * nodeSize + j) 0) (λ j. getD f (nodeNumbersAt + i * nodeNumbersSize + j) nan) ≡ nodeBack (getD (m .nodes) i noNode)
 
   node-here : i < 256 → i < length (m .nodes) → NodeIs
   node-here h hi =
-      let a : (j : ℕ) → j < nodeSize → getD w (nodesAt + i * nodeSize + j) 0 ≡ wordsIn (nodeWords (getD (m .nodes) i noNode)) j = λ j hj. word (nodesAt + i * nodeSize + j) (omega arith) ∙ node-word (g .words) i j noNode hi hj in
-      let b : (j : ℕ) → j < nodeNumbersSize → getD f (nodeNumbersAt + i * nodeNumbersSize + j) nan ≡ numbersIn (nodeNumbers (getD (m .nodes) i noNode)) j = λ j hj. number (nodeNumbersAt + i * nodeNumbersSize + j) (omega arith) ∙ node-number (g .words .known) (g .numbers) i j nan noNode hi hj in
+      let a : (j : ℕ) → j < nodeSize → getD w (nodesAt + i * nodeSize + j) 0 ≡ wordsIn (nodeWords (getD (m .nodes) i noNode)) j = λ j hj. word w (nodesAt + i * nodeSize + j) (omega arith) ∙ node-word (g .words) i j noNode hi hj in
+      let b : (j : ℕ) → j < nodeNumbersSize → getD f (nodeNumbersAt + i * nodeNumbersSize + j) nan ≡ numbersIn (nodeNumbers (getD (m .nodes) i noNode)) j = λ j hj. number f (nodeNumbersAt + i * nodeNumbersSize + j) (omega arith) ∙ node-number (g .words .known) (g .numbers) i j nan noNode hi hj in
       rw (a 0 (omega arith), a 1 (omega arith), a 3 (omega arith), a 4 (omega arith), a 5 (omega arith), a 6 (omega arith), a 7 (omega arith), b 0 (omega arith), b 1 (omega arith), b 2 (omega arith), b 3 (omega arith), b 4 (omega arith), b 5 (omega arith), b 6 (omega arith), b 7 (omega arith))
       (kind-back (getD (m .nodes) i noNode .id) (getD (m .nodes) i noNode .kind) (getD (m .nodes) i noNode .place))
 
   node-past : i < 256 → length (m .nodes) ≤ i → NodeIs
   node-past h past =
-      let a : (j : ℕ) → j < nodeSize → getD w (nodesAt + i * nodeSize + j) 0 ≡ 0 = λ j hj. word (nodesAt + i * nodeSize + j) (omega arith) ∙ past-word (node-words-lie (g .words .known)) (g .words .exact) i j 0 past (omega arith) in
-      let b : (j : ℕ) → j < nodeNumbersSize → getD f (nodeNumbersAt + i * nodeNumbersSize + j) nan ≡ zeroF = λ j hj. number (nodeNumbersAt + i * nodeNumbersSize + j) (omega arith) ∙ past-word (node-numbers-lie (g .words .known)) (g .numbers .exact) i j nan past (omega arith) in
+      let a : (j : ℕ) → j < nodeSize → getD w (nodesAt + i * nodeSize + j) 0 ≡ 0 = λ j hj. word w (nodesAt + i * nodeSize + j) (omega arith) ∙ past-word (node-words-lie (g .words .known)) (g .words .exact) i j 0 past (omega arith) in
+      let b : (j : ℕ) → j < nodeNumbersSize → getD f (nodeNumbersAt + i * nodeNumbersSize + j) nan ≡ zeroF = λ j hj. number f (nodeNumbersAt + i * nodeNumbersSize + j) (omega arith) ∙ past-word (node-numbers-lie (g .words .known)) (g .numbers .exact) i j nan past (omega arith) in
       rw (a 0 (omega arith), a 1 (omega arith), a 3 (omega arith), a 6 (omega arith), a 7 (omega arith), b 0 (omega arith), b 1 (omega arith), b 6 (omega arith), b 7 (omega arith), List·getD-eq-default (m .nodes) noNode past)
 
   pub node-is : i < 256 → NodeIs
@@ -155,57 +146,23 @@ module _ {m : Network} {w : List ℕ} {f : List Float} (g : Stands m w f) (i : �
 
   link-here : i < 256 → i < length (m .links) → LinkIs
   link-here h hi =
-      let a : (j : ℕ) → j < linkSize → getD w (linksAt + i * linkSize + j) 0 ≡ wordsIn (linkWords (getD (m .links) i noLink)) j = λ j hj. word (linksAt + i * linkSize + j) (omega arith) ∙ link-word (g .words) i j noLink hi hj in
-      let b : (j : ℕ) → j < linkNumbersSize → getD f (linkNumbersAt + i * linkNumbersSize + j) nan ≡ numbersIn (linkNumbers (getD (m .links) i noLink)) j = λ j hj. number (linkNumbersAt + i * linkNumbersSize + j) (omega arith) ∙ link-number (g .words .known) (g .numbers) i j nan noLink hi hj in
+      let a : (j : ℕ) → j < linkSize → getD w (linksAt + i * linkSize + j) 0 ≡ wordsIn (linkWords (getD (m .links) i noLink)) j = λ j hj. word w (linksAt + i * linkSize + j) (omega arith) ∙ link-word (g .words) i j noLink hi hj in
+      let b : (j : ℕ) → j < linkNumbersSize → getD f (linkNumbersAt + i * linkNumbersSize + j) nan ≡ numbersIn (linkNumbers (getD (m .links) i noLink)) j = λ j hj. number f (linkNumbersAt + i * linkNumbersSize + j) (omega arith) ∙ link-number (g .words .known) (g .numbers) i j nan noLink hi hj in
       rw (a 0 (omega arith), a 1 (omega arith), a 3 (omega arith), a 4 (omega arith), a 5 (omega arith), a 6 (omega arith), a 7 (omega arith), a 8 (omega arith), b 0 (omega arith), b 1 (omega arith), b 2 (omega arith), b 3 (omega arith))
       (link-back (getD (m .links) i noLink) (getD (m .links) i noLink .kind))
 
   link-past : i < 256 → length (m .links) ≤ i → LinkIs
   link-past h past =
-      let a : (j : ℕ) → j < linkSize → getD w (linksAt + i * linkSize + j) 0 ≡ 0 = λ j hj. word (linksAt + i * linkSize + j) (omega arith) ∙ past-word (link-words-lie (g .words .known)) (g .words .exact) i j 0 past (omega arith) in
-      let b : (j : ℕ) → j < linkNumbersSize → getD f (linkNumbersAt + i * linkNumbersSize + j) nan ≡ zeroF = λ j hj. number (linkNumbersAt + i * linkNumbersSize + j) (omega arith) ∙ past-word (link-numbers-lie (g .words .known)) (g .numbers .exact) i j nan past (omega arith) in
+      let a : (j : ℕ) → j < linkSize → getD w (linksAt + i * linkSize + j) 0 ≡ 0 = λ j hj. word w (linksAt + i * linkSize + j) (omega arith) ∙ past-word (link-words-lie (g .words .known)) (g .words .exact) i j 0 past (omega arith) in
+      let b : (j : ℕ) → j < linkNumbersSize → getD f (linkNumbersAt + i * linkNumbersSize + j) nan ≡ zeroF = λ j hj. number f (linkNumbersAt + i * linkNumbersSize + j) (omega arith) ∙ past-word (link-numbers-lie (g .words .known)) (g .numbers .exact) i j nan past (omega arith) in
       rw (a 0 (omega arith), a 1 (omega arith), a 3 (omega arith), a 4 (omega arith), a 5 (omega arith), a 6 (omega arith), b 0 (omega arith), b 1 (omega arith), b 2 (omega arith), b 3 (omega arith), List·getD-eq-default (m .links) noLink past)
 
   pub link-is : i < 256 → LinkIs
   link-is h = elim (le-or-lt (length (m .links)) i) [ inl past ↦ link-past h past | inr hi ↦ link-here h hi ]
 
-  pub curve-is : i < 64 → curveBy (λ j. getD w (curvesAt + i * idSize + j) 0) ≡ curveBack (getD (m .curves) i noName)
-  curve-is h =
-      let a : (j : ℕ) → j < idSize → getD w (curvesAt + i * idSize + j) 0 ≡ wordsIn (idWords (getD (m .curves) i noName)) j = λ j hj. word (curvesAt + i * idSize + j) (omega arith) ∙ any-word (curve-words-lie (g .words .known)) (g .words .exact) i j 0 noName no-id (omega arith) hj in
-      rw (a 0 (omega arith), a 1 (omega arith))
-
-  pub pattern-is : i < 64 → patternBy (λ j. getD w (patternsAt + i * idSize + j) 0) ≡ patternBack (getD (m .patterns) i noName)
-  pattern-is h =
-      let a : (j : ℕ) → j < idSize → getD w (patternsAt + i * idSize + j) 0 ≡ wordsIn (idWords (getD (m .patterns) i noName)) j = λ j hj. word (patternsAt + i * idSize + j) (omega arith) ∙ any-word (pattern-words-lie (g .words .known)) (g .words .exact) i j 0 noName no-id (omega arith) hj in
-      rw (a 0 (omega arith), a 1 (omega arith))
-
-  pub point-is : i < 1024 → pointBy (getD w (pointsAt + i) 0) (λ j. getD f (pointNumbersAt + i * pointNumbersSize + j) nan) ≡ pointBack (getD (m .points) i noPoint)
-  point-is h =
-      let a : getD w (pointsAt + i) 0 ≡ getD (m .points) i noPoint .curve = word (pointsAt + i) (omega arith) ∙ one-place (take recordWords w) pointsAt i 0 (any-word (point-words-lie (g .words .known)) (g .words .exact) i 0 0 noPoint refl (omega arith) (omega arith)) in
-      let b : (j : ℕ) → j < pointNumbersSize → getD f (pointNumbersAt + i * pointNumbersSize + j) nan ≡ numbersIn (pointNumbers (getD (m .points) i noPoint)) j = λ j hj. number (pointNumbersAt + i * pointNumbersSize + j) (omega arith) ∙ any-word (point-numbers-lie (g .words .known)) (g .numbers .exact) i j nan noPoint refl (omega arith) hj in
-      rw (a, b 0 (omega arith), b 1 (omega arith))
-
-  pub multiplier-is : i < 2048 → multiplierBy (getD w (multipliersAt + i) 0) (getD f (multiplierNumbersAt + i) nan) ≡ multiplierBack (getD (m .multipliers) i noMultiplier)
-  multiplier-is h =
-      let a : getD w (multipliersAt + i) 0 ≡ getD (m .multipliers) i noMultiplier .pattern = word (multipliersAt + i) (omega arith) ∙ one-place (take recordWords w) multipliersAt i 0 (any-word (multiplier-words-lie (g .words .known)) (g .words .exact) i 0 0 noMultiplier refl (omega arith) (omega arith)) in
-      let b : getD f (multiplierNumbersAt + i) nan ≡ getD (m .multipliers) i noMultiplier .value = number (multiplierNumbersAt + i) (omega arith) ∙ one-place (take roomNumbers f) multiplierNumbersAt i nan (any-word (multiplier-numbers-lie (g .words .known)) (g .numbers .exact) i 0 nan noMultiplier refl (omega arith) (omega arith)) in
-      rw (a, b)
-
-  pub demand-is : i < 512 → demandBy (λ j. getD w (demandsAt + i * demandSize + j) 0) (getD f (demandNumbersAt + i) nan) ≡ demandBack (getD (m .demands) i noDemand)
-  demand-is h =
-      let a : (j : ℕ) → j < demandSize → getD w (demandsAt + i * demandSize + j) 0 ≡ wordsIn (demandWords (getD (m .demands) i noDemand)) j = λ j hj. word (demandsAt + i * demandSize + j) (omega arith) ∙ any-word (demand-words-lie (g .words .known)) (g .words .exact) i j 0 noDemand refl (omega arith) hj in
-      let b : getD f (demandNumbersAt + i) nan ≡ getD (m .demands) i noDemand .base = number (demandNumbersAt + i) (omega arith) ∙ one-place (take roomNumbers f) demandNumbersAt i nan (any-word (demand-numbers-lie (g .words .known)) (g .numbers .exact) i 0 nan noDemand refl (omega arith) (omega arith)) in
-      rw (a 0 (omega arith), a 1 (omega arith), a 2 (omega arith), a 3 (omega arith), a 4 (omega arith), b)
-      (demand-back (getD (m .demands) i noDemand) (getD (m .demands) i noDemand .pattern))
-
-  pub time-is : i < 6 → amountFrom (getD w (timesAt + i * timeSize + 0) 0) (getD w (timesAt + i * timeSize + 1) 0) ≡ amountOf (getD (m .times) i none)
-  time-is h =
-      rw (word (timesAt + i * timeSize + 0) (omega arith) ∙ time-word (g .words) i 0 none h (omega arith), word (timesAt + i * timeSize + 1) (omega arith) ∙ time-word (g .words) i 1 none h (omega arith))
-      (amount-back (getD (m .times) i none))
-
   pub rule-is : i < 64 → ruleBy (λ j. getD w (rulesAt + i * ruleSize + j) 0) ≡ ruleBack (getD (m .rules) i noRule)
   rule-is h =
-      let a : (j : ℕ) → j < ruleSize → getD w (rulesAt + i * ruleSize + j) 0 ≡ wordsIn (ruleWords (getD (m .rules) i noRule)) j = λ j hj. word (rulesAt + i * ruleSize + j) (omega arith) ∙ any-word (rule-words-lie (g .words .known)) (g .words .exact) i j 0 noRule no-rule (omega arith) hj in
+      let a : (j : ℕ) → j < ruleSize → getD w (rulesAt + i * ruleSize + j) 0 ≡ wordsIn (ruleWords (getD (m .rules) i noRule)) j = λ j hj. word w (rulesAt + i * ruleSize + j) (omega arith) ∙ any-word (rule-words-lie (g .words .known)) (g .words .exact) i j 0 noRule no-rule (omega arith) hj in
       rw (a 0 (omega arith), a 1 (omega arith), a 3 (omega arith), a 4 (omega arith), a 5 (omega arith), a 6 (omega arith))
       (rule-back (getD (m .rules) i noRule) (getD (m .rules) i noRule .priority))
 
@@ -214,30 +171,16 @@ module _ {m : Network} {w : List ℕ} {f : List Float} (g : Stands m w f) (i : �
 
   clause-here : i < 512 → i < length (m .clauses) → ClauseIs
   clause-here h hi =
-      let a : (j : ℕ) → j < clauseSize → getD w (clausesAt + i * clauseSize + j) 0 ≡ wordsIn (clauseWords (getD (m .clauses) i noClause)) j = λ j hj. word (clausesAt + i * clauseSize + j) (omega arith) ∙ clause-word (g .words) i j noClause hi hj in
-      let b : getD f (clauseNumbersAt + i) nan ≡ numbersIn (clauseNumbers (getD (m .clauses) i noClause)) 0 = number (clauseNumbersAt + i) (omega arith) ∙ clause-number (g .words .known) (g .numbers) i nan noClause hi in
+      let a : (j : ℕ) → j < clauseSize → getD w (clausesAt + i * clauseSize + j) 0 ≡ wordsIn (clauseWords (getD (m .clauses) i noClause)) j = λ j hj. word w (clausesAt + i * clauseSize + j) (omega arith) ∙ clause-word (g .words) i j noClause hi hj in
+      let b : getD f (clauseNumbersAt + i) nan ≡ numbersIn (clauseNumbers (getD (m .clauses) i noClause)) 0 = number f (clauseNumbersAt + i) (omega arith) ∙ clause-number (g .words .known) (g .numbers) i nan noClause hi in
       rw (a 0 (omega arith), a 1 (omega arith), a 2 (omega arith), a 3 (omega arith), a 4 (omega arith), a 5 (omega arith), a 6 (omega arith), b)
       (clause-back (getD (m .clauses) i noClause))
 
   clause-past : i < 512 → length (m .clauses) ≤ i → ClauseIs
   clause-past h past =
-      let a : (j : ℕ) → j < clauseSize → getD w (clausesAt + i * clauseSize + j) 0 ≡ 0 = λ j hj. word (clausesAt + i * clauseSize + j) (omega arith) ∙ past-word (clause-words-lie (g .words .known)) (g .words .exact) i j 0 past (omega arith) in
-      let b : getD f (clauseNumbersAt + i) nan ≡ zeroF = number (clauseNumbersAt + i) (omega arith) ∙ one-place (take roomNumbers f) clauseNumbersAt i nan (past-word (clause-numbers-lie (g .words .known)) (g .numbers .exact) i 0 nan past (omega arith)) in
+      let a : (j : ℕ) → j < clauseSize → getD w (clausesAt + i * clauseSize + j) 0 ≡ 0 = λ j hj. word w (clausesAt + i * clauseSize + j) (omega arith) ∙ past-word (clause-words-lie (g .words .known)) (g .words .exact) i j 0 past (omega arith) in
+      let b : getD f (clauseNumbersAt + i) nan ≡ zeroF = number f (clauseNumbersAt + i) (omega arith) ∙ one-place (take roomNumbers f) clauseNumbersAt i nan (past-word (clause-numbers-lie (g .words .known)) (g .numbers .exact) i 0 nan past (omega arith)) in
       rw (a 0 (omega arith), a 1 (omega arith), a 2 (omega arith), a 4 (omega arith), a 5 (omega arith), a 6 (omega arith), b, List·getD-eq-default (m .clauses) noClause past)
 
   pub clause-is : i < 512 → ClauseIs
   clause-is h = elim (le-or-lt (length (m .clauses)) i) [ inl past ↦ clause-past h past | inr hi ↦ clause-here h hi ]
-
--- ---- the counts
-pub counts-back : (m : Network) (w rest : List ℕ) → drop recordWords w ≡ tallyWords (countsOf m) ++ rest → countsBy (λ j. getD w (recordWords + j) 0) ≡ countsOf m
-counts-back m w rest e =
-    let a : (j : ℕ) → getD w (recordWords + j) 0 ≡ getD (tallyWords (countsOf m) ++ rest) j 0 = λ j. sym (getD-drop recordWords w j 0) ∙ ap (λ (l : List ℕ). getD l j 0) e in
-    rw (a 0, a 1, a 2, a 3, a 4, a 5, a 6, a 7, a 8)
-
-nine-more : (c : Counts) (rest : List ℕ) → length (tallyWords c ++ rest) ≡ 9 + length rest
-nine-more c rest = length-append (tallyWords c) rest
-
-pub counts-long : (m : Network) (w rest : List ℕ) → drop recordWords w ≡ tallyWords (countsOf m) ++ rest → roomWords ≤ length w
-counts-long m w rest e =
-    let long : length (drop recordWords w) ≡ 9 + length rest = ap length e ∙ nine-more (countsOf m) rest in
-    omega (arith, long, length-drop recordWords w)

@@ -1,4 +1,4 @@
--- What the proofs of several functions use.
+-- What the proofs of several functions use, here and in the series read back.
 pub mod PastLaws
-pub mod Whole
+mod Whole
 pub mod BackLaws

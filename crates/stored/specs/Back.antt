@@ -1,4 +1,4 @@
--- A record read back from the tables: what the code has for each record of the network. Assumes nothing.
+-- A node, link, rule or clause read back from the tables: what the code has for each record of the network. Assumes nothing.
 use Prim.Native.Nat.{ℕ, _+_}
 use mathlib.Core.Bool.{true, false, cond}
 use mathlib.Core.List.{List}
@@ -27,11 +27,6 @@ use Rattle.stored.specs.declared.Valve as valveOut
 use Rattle.stored.specs.declared.LinkKind as linkKindOut
 use Rattle.stored.specs.declared.LinkKind.the-variants as linkIs
 use Rattle.stored.specs.declared.Link as linkOut
-use Rattle.stored.specs.declared.Curve as curveOut
-use Rattle.stored.specs.declared.Pattern as patternOut
-use Rattle.stored.specs.declared.Point as pointOut
-use Rattle.stored.specs.declared.Multiplier as multiplierOut
-use Rattle.stored.specs.declared.Demand as demandOut
 use Rattle.stored.specs.declared.Rule as ruleOut
 use Rattle.stored.specs.declared.Clause as clauseOut
 use Rattle.stored.specs.declared.Clause.the-variants as clauseIs
@@ -43,12 +38,6 @@ pub record Stands (m : Network) (w : List ℕ) (f : List Float) : Type 0 where
   pub numbers : Numbers m (take roomNumbers f)
 
 -- what stands past the end of a list
-abbrev pub noPoint : R.Point
-noPoint = record { curve = 0; x = zeroF; y = zeroF }
-
-abbrev pub noMultiplier : R.Multiplier
-noMultiplier = record { pattern = 0; value = zeroF }
-
 abbrev pub noClause : R.Clause
 noClause = action (record { link = 0; name = noName; value = Number zeroF; otherwise = false })
 
@@ -113,21 +102,6 @@ linkKindBack (valve v) = linkIs.Valve (record { setting = v .setting; diameter =
 
 abbrev pub linkBack : R.Link → linkOut.Link
 linkBack l = record { id = nameSpan (l .id); start = l .start; end = l .end; kind = linkKindBack (l .kind) }
-
-abbrev pub curveBack : Name → curveOut.Curve
-curveBack n = record { id = nameSpan n }
-
-abbrev pub patternBack : Name → patternOut.Pattern
-patternBack n = record { id = nameSpan n }
-
-abbrev pub pointBack : R.Point → pointOut.Point
-pointBack p = record { curve = p .curve; x = p .x; y = p .y }
-
-abbrev pub multiplierBack : R.Multiplier → multiplierOut.Multiplier
-multiplierBack p = record { pattern = p .pattern; value = p .value }
-
-abbrev pub demandBack : R.Demand → demandOut.Demand
-demandBack d = record { node = d .node; own = d .own; base = d .base; pattern = nameField (d .pattern); index = placeFound (d .index) }
 
 abbrev pub ruleBack : R.Rule → ruleOut.Rule
 ruleBack r = record { id = nameSpan (r .id); first = r .first; count = r .count; priority = amountOf (r .priority) }

@@ -1,0 +1,2 @@
+-- What the proof of the one function uses.
+mod CountsLaws

@@ -1,0 +1,191 @@
+// Curves, patterns, demands and times read back by value from the two tables that a reading filled.
+ghost use mathlib.Core.Path.{_≡_};
+ghost use mathlib.Core.List.{List};
+ghost use mathlib.Core.Option.{none};
+ghost use Prim.Native.Nat.{_≤_, _<_};
+ghost use lib.Ieee.{Float};
+ghost use lib.ListN.{length, getD};
+ghost use Rattle.scope.specs.Records.{Network, noName};
+ghost use Rattle.tables.specs.Holding.{noDemand};
+ghost use Rattle.codes.specs.Codes.{amountOf};
+ghost use Rattle.stored.specs.Back.{Stands};
+ghost use Rattle.storedseries.specs.Back.{noPoint, noMultiplier, curveBack, patternBack, pointBack, multiplierBack, demandBack};
+use codes::Amount;
+use fields::Field;
+use fields::Span;
+use scope::Found;
+
+// ---- what the records are
+
+pub struct Curve {
+    pub id: Span,
+}
+
+pub struct Pattern {
+    pub id: Span,
+}
+
+// The curve is the place of the point's curve.
+pub struct Point {
+    pub curve: usize,
+    pub x: f64,
+    pub y: f64,
+}
+
+// The pattern is the place of the multiplier's pattern.
+pub struct Multiplier {
+    pub pattern: usize,
+    pub value: f64,
+}
+
+// The node is the place of the junction; `own` marks the demand of the junction's own line.
+pub struct Demand {
+    pub node: usize,
+    pub own: bool,
+    pub base: f64,
+    pub pattern: Field,
+    pub index: Found,
+}
+
+// ---- curves and patterns
+
+fn curve_row(words: &[u64], i: usize) -> Curve
+    requires { ⌜ (i < 64) × (17128 ≤ length (now words)) ⌝ }
+    ensures { λ r. ⌜ ((m : Network) (f : List Float) → Stands m (now (words .entry)) f → r ≡ curveBack (getD (m .curves) i noName)) ⌝ }
+{
+    let id = stored::span_at(words, tables::CURVES + i * tables::ID_WORDS);
+    Curve { id }
+}
+
+// Curve number i; past the end, an empty one. So it is for every record below.
+pub fn curve_at(words: &[u64], i: usize) -> Curve
+    ensures { λ r. ⌜ ((m : Network) (f : List Float) → Stands m (now (words .entry)) f → r ≡ curveBack (getD (m .curves) i noName)) ⌝ }
+{
+    if codes::has_room(words, 64, i) {
+        return curve_row(words, i);
+    }
+    Curve {
+        id: Span { at: 0, end: 0 },
+    }
+}
+
+fn pattern_row(words: &[u64], i: usize) -> Pattern
+    requires { ⌜ (i < 64) × (17128 ≤ length (now words)) ⌝ }
+    ensures { λ r. ⌜ ((m : Network) (f : List Float) → Stands m (now (words .entry)) f → r ≡ patternBack (getD (m .patterns) i noName)) ⌝ }
+{
+    let id = stored::span_at(words, tables::PATTERNS + i * tables::ID_WORDS);
+    Pattern { id }
+}
+
+// Pattern number i.
+pub fn pattern_at(words: &[u64], i: usize) -> Pattern
+    ensures { λ r. ⌜ ((m : Network) (f : List Float) → Stands m (now (words .entry)) f → r ≡ patternBack (getD (m .patterns) i noName)) ⌝ }
+{
+    if codes::has_room(words, 64, i) {
+        return pattern_row(words, i);
+    }
+    Pattern {
+        id: Span { at: 0, end: 0 },
+    }
+}
+
+fn point_row(words: &[u64], numbers: &[f64], i: usize) -> Point
+    requires { ⌜ (i < 1024) × (17128 ≤ length (now words)) × (8192 ≤ length (now numbers)) ⌝ }
+    ensures { λ r. ⌜ ((m : Network) → Stands m (now (words .entry)) (now (numbers .entry)) → r ≡ pointBack (getD (m .points) i noPoint)) ⌝ }
+{
+    let b = tables::POINT_NUMBERS + i * tables::NUMBERS_OF_POINT;
+    Point {
+        curve: words[tables::POINTS + i] as usize,
+        x: numbers[b + 0],
+        y: numbers[b + 1],
+    }
+}
+
+// Point number i.
+pub fn point_at(words: &[u64], numbers: &[f64], i: usize) -> Point
+    ensures { λ r. ⌜ ((m : Network) → Stands m (now (words .entry)) (now (numbers .entry)) → r ≡ pointBack (getD (m .points) i noPoint)) ⌝ }
+{
+    if codes::have_room(words, numbers, 1024, i) {
+        return point_row(words, numbers, i);
+    }
+    Point {
+        curve: 0,
+        x: 0.0,
+        y: 0.0,
+    }
+}
+
+fn multiplier_row(words: &[u64], numbers: &[f64], i: usize) -> Multiplier
+    requires { ⌜ (i < 2048) × (17128 ≤ length (now words)) × (8192 ≤ length (now numbers)) ⌝ }
+    ensures { λ r. ⌜ ((m : Network) → Stands m (now (words .entry)) (now (numbers .entry)) → r ≡ multiplierBack (getD (m .multipliers) i noMultiplier)) ⌝ }
+{
+    Multiplier {
+        pattern: words[tables::MULTIPLIERS + i] as usize,
+        value: numbers[tables::MULTIPLIER_NUMBERS + i],
+    }
+}
+
+// Multiplier number i.
+pub fn multiplier_at(words: &[u64], numbers: &[f64], i: usize) -> Multiplier
+    ensures { λ r. ⌜ ((m : Network) → Stands m (now (words .entry)) (now (numbers .entry)) → r ≡ multiplierBack (getD (m .multipliers) i noMultiplier)) ⌝ }
+{
+    if codes::have_room(words, numbers, 2048, i) {
+        return multiplier_row(words, numbers, i);
+    }
+    Multiplier {
+        pattern: 0,
+        value: 0.0,
+    }
+}
+
+// ---- demands and times
+
+fn demand_row(words: &[u64], numbers: &[f64], i: usize) -> Demand
+    requires { ⌜ (i < 512) × (17128 ≤ length (now words)) × (8192 ≤ length (now numbers)) ⌝ }
+    ensures { λ r. ⌜ ((m : Network) → Stands m (now (words .entry)) (now (numbers .entry)) → r ≡ demandBack (getD (m .demands) i noDemand)) ⌝ }
+{
+    let a = tables::DEMANDS + i * tables::DEMAND_WORDS;
+    let pattern = stored::field_at(words, a + 2);
+    let index = codes::found_from(words[a + 4]);
+    Demand {
+        node: words[a + 0] as usize,
+        own: words[a + 1] == 1,
+        base: numbers[tables::DEMAND_NUMBERS + i],
+        pattern,
+        index,
+    }
+}
+
+// Demand number i.
+pub fn demand_at(words: &[u64], numbers: &[f64], i: usize) -> Demand
+    ensures { λ r. ⌜ ((m : Network) → Stands m (now (words .entry)) (now (numbers .entry)) → r ≡ demandBack (getD (m .demands) i noDemand)) ⌝ }
+{
+    if codes::have_room(words, numbers, 512, i) {
+        return demand_row(words, numbers, i);
+    }
+    Demand {
+        node: 0,
+        own: false,
+        base: 0.0,
+        pattern: Field::Nothing,
+        index: Found::Nowhere,
+    }
+}
+
+fn time_row(words: &[u64], i: usize) -> Amount
+    requires { ⌜ (i < 6) × (17128 ≤ length (now words)) ⌝ }
+    ensures { λ r. ⌜ ((m : Network) (f : List Float) → Stands m (now (words .entry)) f → r ≡ amountOf (getD (m .times) i none)) ⌝ }
+{
+    let a = tables::TIMES + i * tables::TIME_WORDS;
+    codes::amount_from(words[a + 0], words[a + 1])
+}
+
+// Time number i: duration, hydraulic timestep, pattern timestep, report timestep, pattern start, start clocktime.
+pub fn time_at(words: &[u64], i: usize) -> Amount
+    ensures { λ r. ⌜ ((m : Network) (f : List Float) → Stands m (now (words .entry)) f → r ≡ amountOf (getD (m .times) i none)) ⌝ }
+{
+    if codes::has_room(words, 6, i) {
+        return time_row(words, i);
+    }
+    Amount::Unset
+}
