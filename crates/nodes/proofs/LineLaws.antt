@@ -10,15 +10,16 @@ use Rattle.scope.specs.Records.{Network, Node}
 use Rattle.scope.specs.Values.{Read, good, bad, onRead, Took, took, refused, onTook, numberFrom}
 use Rattle.scope.specs.Nodes.{JunctionFields, junctionOf, addJunction, junctionStep, addNode, setEmitter, emitterStep, setPlace, coordinatesStep}
 use Rattle.takers.proofs.TextLaws.{fits-text, may-fit-text, name-text, opt-text}
-use Rattle.nodelines.specs.Lines.{junctionIn, JunctionAs, reservoirIn, basinIn, NodeAs, EmitterFields, emitterOf, emitterIn, EmitterAs, PlaceFields, placeOf, placeIn, PlaceAs}
+use Rattle.nodelines.specs.Lines.{junctionIn, JunctionAs, reservoirIn, basinIn, NodeAs}
 use Rattle.nodelines.specs.declared.JunctionRead.{JunctionRead}
 use Rattle.nodelines.specs.declared.JunctionRead.the-variants.{Junction, NoJunction}
 use Rattle.nodelines.specs.declared.NodeRead.{NodeRead}
 use Rattle.nodelines.specs.declared.NodeRead.the-variants.{Reservoir, Basin, NoNode}
-use Rattle.nodelines.specs.declared.EmitterRead.{EmitterRead}
-use Rattle.nodelines.specs.declared.EmitterRead.the-variants.{Emitter, NoEmitter}
-use Rattle.nodelines.specs.declared.PlaceRead.{PlaceRead}
-use Rattle.nodelines.specs.declared.PlaceRead.the-variants as place
+use Rattle.placelines.specs.Lines.{EmitterFields, emitterOf, emitterIn, EmitterAs, PlaceFields, placeOf, placeIn, PlaceAs}
+use Rattle.placelines.specs.declared.EmitterRead.{EmitterRead}
+use Rattle.placelines.specs.declared.EmitterRead.the-variants.{Emitter, NoEmitter}
+use Rattle.placelines.specs.declared.PlaceRead.{PlaceRead}
+use Rattle.placelines.specs.declared.PlaceRead.the-variants as place
 
 -- ---- the readers' definitions, and scope's
 emitter-number : (id : Name) (m : Network) (t : Took Float) → onTook t (λ x fs. setEmitter id x m) ≡ onRead (onTook t (λ x fs. good (record { id = id; coefficient = x }))) (λ (e : EmitterFields). setEmitter (e .id) (e .coefficient) m)

@@ -1,4 +1,4 @@
-// Stores what a line of JUNCTIONS, RESERVOIRS, TANKS, EMITTERS or COORDINATES says, as nodelines reads it: the record is looked up and stored.
+// Stores what a line of JUNCTIONS, RESERVOIRS, TANKS, EMITTERS or COORDINATES says, as nodelines, tanklines and placelines read it: the record is looked up and stored.
 ghost use mathlib.Core.Path.{_≡_};
 ghost use Prim.Native.Nat.{_+_, _*_, _%_, _≤_, _<_};
 ghost use lib.ListN.{length, take};
@@ -11,18 +11,19 @@ ghost use Rattle.tables.specs.Table.{splice};
 ghost use Rattle.tables.specs.Layout.{nodesAt, nodeSize, nodeSlotsAt, nodeNumbersAt, nodeNumbersSize, demandsAt, demandSize, demandSlotsAt, demandNumbersAt};
 ghost use Rattle.tables.specs.Adding.{nodeAdded, demandAdded};
 ghost use Rattle.tables.specs.Holding.{Words, Holds, Sound, After};
-ghost use Rattle.nodelines.specs.Lines.{junctionIn, reservoirIn, tankIn, NodeAs, placeIn};
+ghost use Rattle.nodelines.specs.Lines.{junctionIn, reservoirIn, tankIn, NodeAs};
+ghost use Rattle.placelines.specs.Lines.{placeIn};
 ghost use Rattle.nodes.specs.Storing.{newNode, newWords, ownWords, KindAs};
 use fields::Field;
 use fields::Span;
-use nodelines::EmitterLine;
-use nodelines::EmitterRead;
 use nodelines::JunctionLine;
 use nodelines::JunctionRead;
 use nodelines::NodeRead;
-use nodelines::PlaceLine;
-use nodelines::PlaceRead;
 use nodelines::ReservoirLine;
+use placelines::EmitterLine;
+use placelines::EmitterRead;
+use placelines::PlaceLine;
+use placelines::PlaceRead;
 use scope::Counts;
 use scope::Found;
 use scope::Reason;
@@ -348,7 +349,7 @@ pub fn tank_line(
     ensures { λ r. ⌜ ((m : Network) → Holds (now (text .entry)) m s (now (words .entry)) (now (numbers .entry))
         → After (now (text .entry)) (tankStep (fieldsAt (take end (now (text .entry))) at) m) r (now (words .entry)) (now (numbers .entry)) (now (words .exit)) (now (numbers .exit))) ⌝ }
 {
-    let read = nodelines::read_tank(&text[..end], at);
+    let read = tanklines::read_tank(&text[..end], at);
     store_read(text, read, s, words, numbers)
 }
 
@@ -365,7 +366,7 @@ pub fn emitter_line(
     ensures { λ r. ⌜ ((m : Network) → Holds (now (text .entry)) m s (now (words .entry)) (now (numbers .entry))
         → After (now (text .entry)) (emitterStep (fieldsAt (take end (now (text .entry))) at) m) r (now (words .entry)) (now (numbers .entry)) (now (words .exit)) (now (numbers .exit))) ⌝ }
 {
-    let read = nodelines::read_emitter(&text[..end], at);
+    let read = placelines::read_emitter(&text[..end], at);
     match read {
         EmitterRead::Emitter(e) => store_emitter(text, e, s, words, numbers),
         EmitterRead::NoEmitter(why) => Kept::Refused(why),
@@ -385,7 +386,7 @@ pub fn coordinates_line(
     ensures { λ r. ⌜ ((m : Network) → Holds (now (text .entry)) m s (now (words .entry)) (now (numbers .entry))
         → After (now (text .entry)) (coordinatesStep (fieldsAt (take end (now (text .entry))) at) m) r (now (words .entry)) (now (numbers .entry)) (now (words .exit)) (now (numbers .exit))) ⌝ }
 {
-    let read = nodelines::read_coordinates(&text[..end], at);
+    let read = placelines::read_coordinates(&text[..end], at);
     match read {
         PlaceRead::Place(p) => store_coordinates(text, p, s, words, numbers),
         PlaceRead::NoPlace(why) => Kept::Refused(why),

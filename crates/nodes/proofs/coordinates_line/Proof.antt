@@ -3,14 +3,14 @@ use mathlib.Core.Path.{refl, sym}
 use lib.ListN.{take}
 use lib.Seq.{length-take-le}
 use Rattle.fields.specs.Fields.{fieldsAt}
-use Rattle.nodelines.specs.Lines.{placeOf}
+use Rattle.placelines.specs.Lines.{placeOf}
 use Rattle.nodes.proofs.LineLaws.{place-told, place-good, place-bad}
 use borrow.Author.Needs.{needs}
 use Rattle.nodes.proofs.coordinates_line.Statement.{statement}
 use Rattle.nodes.proofs.coordinates_line.Tie as tie
 use Rattle.nodes.proofs.coordinates_line.Reads as reads
 use Rattle.nodes.proofs.coordinates_line.Lts as lts
-use Rattle.nodelines.proofs.read_coordinates.Reads as read-coordinates-reads
+use Rattle.placelines.proofs.read_coordinates.Reads as read-coordinates-reads
 use Rattle.nodes.proofs.store_coordinates.Reads as store-coordinates-reads
 
 slice-aggregate-read-coordinates : tie.Need-slice-aggregate-read-coordinates

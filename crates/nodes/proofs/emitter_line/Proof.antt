@@ -3,14 +3,14 @@ use mathlib.Core.Path.{refl, sym}
 use lib.ListN.{take}
 use lib.Seq.{length-take-le}
 use Rattle.fields.specs.Fields.{fieldsAt}
-use Rattle.nodelines.specs.Lines.{emitterOf}
+use Rattle.placelines.specs.Lines.{emitterOf}
 use Rattle.nodes.proofs.LineLaws.{emitter-told, emitter-good, emitter-bad}
 use borrow.Author.Needs.{needs}
 use Rattle.nodes.proofs.emitter_line.Statement.{statement}
 use Rattle.nodes.proofs.emitter_line.Tie as tie
 use Rattle.nodes.proofs.emitter_line.Reads as reads
 use Rattle.nodes.proofs.emitter_line.Lts as lts
-use Rattle.nodelines.proofs.read_emitter.Reads as read-emitter-reads
+use Rattle.placelines.proofs.read_emitter.Reads as read-emitter-reads
 use Rattle.nodes.proofs.store_emitter.Reads as store-emitter-reads
 
 slice-aggregate-read-emitter : tie.Need-slice-aggregate-read-emitter

@@ -10,7 +10,7 @@ use Rattle.nodes.proofs.tank_line.Statement.{statement}
 use Rattle.nodes.proofs.tank_line.Tie as tie
 use Rattle.nodes.proofs.tank_line.Reads as reads
 use Rattle.nodes.proofs.tank_line.Lts as lts
-use Rattle.nodelines.proofs.read_tank.Reads as read-tank-reads
+use Rattle.tanklines.proofs.read_tank.Reads as read-tank-reads
 use Rattle.nodes.proofs.store_read.Reads as store-read-reads
 
 slice-aggregate-read-tank : tie.Need-slice-aggregate-read-tank

@@ -4,12 +4,12 @@ use mathlib.Core.List.{_∷_}
 use Rattle.fields.specs.Fields.{Fits, fieldsAt, nameIn}
 use Rattle.scope.specs.Values.{took, bad, numberFrom}
 use Rattle.takers.specs.Taking.{tookNumber, reasonIn}
-use Rattle.nodelines.specs.Lines.{placeOf}
+use Rattle.placelines.specs.Lines.{placeOf}
 use borrow.Author.Needs.{needs}
-use Rattle.nodelines.proofs.read_coordinates.Statement.{statement}
-use Rattle.nodelines.proofs.read_coordinates.Tie as tie
-use Rattle.nodelines.proofs.read_coordinates.Reads as reads
-use Rattle.nodelines.proofs.read_coordinates.Lts as lts
+use Rattle.placelines.proofs.read_coordinates.Statement.{statement}
+use Rattle.placelines.proofs.read_coordinates.Tie as tie
+use Rattle.placelines.proofs.read_coordinates.Reads as reads
+use Rattle.placelines.proofs.read_coordinates.Lts as lts
 use Rattle.fields.proofs.next_field.Reads as next-field-reads
 use Rattle.takers.proofs.reason_of.Reads as reason-of-reads
 use Rattle.takers.proofs.take_number.Reads as take-number-reads

@@ -3,12 +3,12 @@ use mathlib.Core.Path.{_≡_, sym, ap, _∙_}
 use mathlib.Core.List.{_∷_}
 use Rattle.fields.specs.Fields.{Fits, fieldsAt, nameIn}
 use Rattle.takers.specs.Taking.{tookNumber}
-use Rattle.nodelines.specs.Lines.{emitterOf}
+use Rattle.placelines.specs.Lines.{emitterOf}
 use borrow.Author.Needs.{needs}
-use Rattle.nodelines.proofs.read_emitter.Statement.{statement}
-use Rattle.nodelines.proofs.read_emitter.Tie as tie
-use Rattle.nodelines.proofs.read_emitter.Reads as reads
-use Rattle.nodelines.proofs.read_emitter.Lts as lts
+use Rattle.placelines.proofs.read_emitter.Statement.{statement}
+use Rattle.placelines.proofs.read_emitter.Tie as tie
+use Rattle.placelines.proofs.read_emitter.Reads as reads
+use Rattle.placelines.proofs.read_emitter.Lts as lts
 use Rattle.fields.proofs.next_field.Reads as next-field-reads
 use Rattle.takers.proofs.take_number.Reads as take-number-reads
 

@@ -3,10 +3,10 @@ use mathlib.Core.Path.{_≡_, sym, _∙_}
 use mathlib.Core.List.{_∷_}
 use Rattle.fields.specs.Fields.{Fits, fieldsAt, nameIn}
 use borrow.Author.Needs.{needs}
-use Rattle.nodelines.proofs.take_curve.Statement.{statement}
-use Rattle.nodelines.proofs.take_curve.Tie as tie
-use Rattle.nodelines.proofs.take_curve.Reads as reads
-use Rattle.nodelines.proofs.take_curve.Lts as lts
+use Rattle.tanklines.proofs.take_curve.Statement.{statement}
+use Rattle.tanklines.proofs.take_curve.Tie as tie
+use Rattle.tanklines.proofs.take_curve.Reads as reads
+use Rattle.tanklines.proofs.take_curve.Lts as lts
 use Rattle.letters.proofs.equal.Reads as equal-reads
 use Rattle.fields.proofs.letters_of.Reads as letters-of-reads
 use Rattle.fields.proofs.next_field.Reads as next-field-reads

@@ -6,14 +6,14 @@ use Rattle.scope.specs.Values.{took, bad, numberFrom}
 use Rattle.takers.specs.Taking.{tookNumber, reasonIn}
 use Rattle.takers.proofs.TakeLaws.{may-fit}
 use Rattle.scope.specs.Nodes.{tankOf}
-use Rattle.nodelines.proofs.TankLaws.{or-levels}
+use Rattle.tanklines.proofs.TankLaws.{or-levels}
 use borrow.Author.Needs.{needs}
-use Rattle.nodelines.proofs.read_tank.Statement.{statement}
-use Rattle.nodelines.proofs.read_tank.Tie as tie
-use Rattle.nodelines.proofs.read_tank.Reads as reads
-use Rattle.nodelines.proofs.read_tank.Lts as lts
+use Rattle.tanklines.proofs.read_tank.Statement.{statement}
+use Rattle.tanklines.proofs.read_tank.Tie as tie
+use Rattle.tanklines.proofs.read_tank.Reads as reads
+use Rattle.tanklines.proofs.read_tank.Lts as lts
 use Rattle.fields.proofs.next_field.Reads as next-field-reads
-use Rattle.nodelines.proofs.read_levels.Reads as read-levels-reads
+use Rattle.tanklines.proofs.read_levels.Reads as read-levels-reads
 use Rattle.takers.proofs.reason_of.Reads as reason-of-reads
 use Rattle.takers.proofs.take_number.Reads as take-number-reads
 

@@ -6,13 +6,13 @@ use Rattle.scope.specs.Spelling.{zeroText}
 use Rattle.takers.specs.Taking.{tookNumber, reasonIn}
 use Rattle.scope.specs.Nodes.{levelsOf}
 use borrow.Author.Needs.{needs}
-use Rattle.nodelines.proofs.read_levels.Statement.{statement}
-use Rattle.nodelines.proofs.read_levels.Tie as tie
-use Rattle.nodelines.proofs.read_levels.Reads as reads
-use Rattle.nodelines.proofs.read_levels.Lts as lts
+use Rattle.tanklines.proofs.read_levels.Statement.{statement}
+use Rattle.tanklines.proofs.read_levels.Tie as tie
+use Rattle.tanklines.proofs.read_levels.Reads as reads
+use Rattle.tanklines.proofs.read_levels.Lts as lts
 use Rattle.fields.proofs.past_field.Reads as past-field-reads
-use Rattle.nodelines.proofs.take_curve.Reads as take-curve-reads
-use Rattle.nodelines.proofs.take_overflow.Reads as take-overflow-reads
+use Rattle.tanklines.proofs.take_curve.Reads as take-curve-reads
+use Rattle.tanklines.proofs.take_overflow.Reads as take-overflow-reads
 use Rattle.takers.proofs.reason_of.Reads as reason-of-reads
 use Rattle.takers.proofs.take_number.Reads as take-number-reads
 use Rattle.takers.proofs.take_number_or.Reads as take-number-or-reads
