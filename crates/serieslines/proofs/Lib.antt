@@ -1,2 +1,2 @@
--- What the proofs of this crate, and of series, use.
+-- What the proofs of this crate, and of patterns, use.
 pub mod PatternLaws

@@ -14,9 +14,9 @@ use Rattle.nodes.proofs.emitter_line.Reads as emitter-line-reads
 use Rattle.nodes.proofs.junction_line.Reads as junction-line-reads
 use Rattle.nodes.proofs.reservoir_line.Reads as reservoir-line-reads
 use Rattle.nodes.proofs.tank_line.Reads as tank-line-reads
-use Rattle.series.proofs.curve_line.Reads as curve-line-reads
-use Rattle.series.proofs.demand_line.Reads as demand-line-reads
-use Rattle.series.proofs.pattern_line.Reads as pattern-line-reads
+use Rattle.curves.proofs.curve_line.Reads as curve-line-reads
+use Rattle.demands.proofs.demand_line.Reads as demand-line-reads
+use Rattle.patterns.proofs.pattern_line.Reads as pattern-line-reads
 use Rattle.timing.proofs.times_line.Reads as times-line-reads
 
 enum-told : tie.Need-enum-told

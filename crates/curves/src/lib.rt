@@ -1,0 +1,116 @@
+// Stores what a line of CURVES says, as serieslines reads it.
+ghost use mathlib.Core.Path.{_≡_};
+ghost use mathlib.Core.List.{List, [], _∷_};
+ghost use Prim.Native.Nat.{ℕ, _+_, _*_, _≤_, _<_};
+ghost use lib.ListN.{length, take};
+ghost use Rattle.fields.specs.Fields.{fieldsAt, nameIn, Fits};
+ghost use Rattle.scope.specs.Sections.{roomPoints};
+ghost use Rattle.scope.specs.Records.{Network};
+ghost use Rattle.scope.specs.Series.{falls, lastX, addPoint, curveStep};
+ghost use Rattle.scope.specs.Tables.{recordWords, roomNumbers, idWords, marked, idSlot};
+ghost use Rattle.tables.specs.Table.{splice};
+ghost use Rattle.tables.specs.Layout.{pointsAt, patternsAt, patternSlotsAt, idSize, pointNumbersAt, pointNumbersSize};
+ghost use Rattle.tables.specs.Holding.{Words, Numbers, Holds, Sound, After};
+use fields::Span;
+use scope::Counts;
+use scope::Found;
+use scope::Reason;
+use serieslines::PointLine;
+use serieslines::PointRead;
+use tables::Kept;
+
+// A curve's name, or a pattern's for the crate patterns, as record n of those at `base`, and its slot of those at `slots`.
+pub fn put_id(text: &[u8], id: Span, n: usize, base: usize, slots: usize, words: &mut [u64])
+    requires { ⌜ (n < 64) × (base ≤ patternsAt) × (slots ≤ patternSlotsAt) × (length (now words) ≡ recordWords) ⌝ }
+    ensures { λ _. ⌜ now (words .exit) ≡ marked (splice (now (words .entry)) (base + n * idSize) (idWords (nameIn (now (text .entry)) id))) (slots + idSlot (nameIn (now (text .entry)) id)) (n + 1) ⌝ }
+{
+    let name = tables::id_words(text, id);
+    tables::paste_words(words, base + n * tables::ID_WORDS, &name);
+    let slot = tables::slot_of(name[2]);
+    tables::mark(words, slots + slot, n);
+}
+
+// Whether x is less than the last x of a curve: its last point is looked for from the end on.
+fn falls_behind(words: &[u64], numbers: &[f64], points: usize, curve: usize, x: f64) -> bool
+    requires { ⌜ (points ≤ roomPoints) × (length (now words) ≡ recordWords) × (length (now numbers) ≡ roomNumbers) ⌝ }
+    ensures { λ r. ⌜ ((text : List ℕ) (m : Network) → Words text m (now (words .entry)) → Numbers m (now (numbers .entry)) → points ≡ length (m .points) → r ≡ falls x (lastX curve (m .points))) ⌝ }
+{
+    let mut k = points;
+    while 0 < k {
+        let j = k - 1;
+        if words[tables::POINTS + j] == curve as u64 {
+            return x < numbers[tables::POINT_NUMBERS + j * tables::NUMBERS_OF_POINT];
+        }
+        k = j;
+    }
+    false
+}
+
+// Point number k.
+fn put_point(words: &mut [u64], numbers: &mut [f64], k: usize, curve: usize, x: f64, y: f64)
+    requires { ⌜ (k < roomPoints) × (length (now words) ≡ recordWords) × (length (now numbers) ≡ roomNumbers) ⌝ }
+    ensures { λ _. ⌜ (now (words .exit) ≡ splice (now (words .entry)) (pointsAt + k) (curve ∷ [])) × (now (numbers .exit) ≡ splice (now (numbers .entry)) (pointNumbersAt + k * pointNumbersSize) (x ∷ y ∷ [])) ⌝ }
+{
+    tables::paste_words(words, tables::POINTS + k, &[curve as u64]);
+    tables::paste_numbers(
+        numbers,
+        tables::POINT_NUMBERS + k * tables::NUMBERS_OF_POINT,
+        &[x, y],
+    );
+}
+
+fn store_point(text: &[u8], p: PointLine, s: Counts, words: &mut [u64], numbers: &mut [f64]) -> Kept
+    requires { ⌜ Sound (now text) s (now words) (now numbers) × Fits (now text) (p .id) ⌝ }
+    ensures { λ r. ⌜ ((m : Network) → Holds (now (text .entry)) m s (now (words .entry)) (now (numbers .entry))
+        → After (now (text .entry)) (addPoint (nameIn (now (text .entry)) (p .id)) (p .x) (p .y) m) r (now (words .entry)) (now (numbers .entry)) (now (words .exit)) (now (numbers .exit))) ⌝ }
+{
+    let id = p.id;
+    let n = s.curves;
+    let k = s.points;
+    let found = tables::find_curve(text, words, n, fields::letters_of(text, id));
+    let mut t = s;
+    t.points = k + 1;
+    match found {
+        Found::At(i) => {
+            if falls_behind(words, numbers, k, i, p.x) {
+                return Kept::Refused(Reason::Falling);
+            }
+            if k < 1024 {
+                put_point(words, numbers, k, i, p.x, p.y);
+                return Kept::Stored(t);
+            }
+            Kept::Refused(Reason::Full)
+        }
+        Found::Nowhere => {
+            if n < 64 {
+                if k < 1024 {
+                    put_id(text, id, n, tables::CURVES, tables::CURVE_SLOTS, words);
+                    put_point(words, numbers, k, n, p.x, p.y);
+                    t.curves = n + 1;
+                    return Kept::Stored(t);
+                }
+            }
+            Kept::Refused(Reason::Full)
+        }
+    }
+}
+
+// The line of CURVES from `at` to `end`.
+pub fn curve_line(
+    text: &[u8],
+    at: usize,
+    end: usize,
+    s: Counts,
+    words: &mut [u64],
+    numbers: &mut [f64],
+) -> Kept
+    requires { ⌜ Sound (now text) s (now words) (now numbers) × (end ≤ length (now text)) ⌝ }
+    ensures { λ r. ⌜ ((m : Network) → Holds (now (text .entry)) m s (now (words .entry)) (now (numbers .entry))
+        → After (now (text .entry)) (curveStep (fieldsAt (take end (now (text .entry))) at) m) r (now (words .entry)) (now (numbers .entry)) (now (words .exit)) (now (numbers .exit))) ⌝ }
+{
+    let read = serieslines::read_curve(&text[..end], at);
+    match read {
+        PointRead::Point(p) => store_point(text, p, s, words, numbers),
+        PointRead::NoPoint(why) => Kept::Refused(why),
+    }
+}

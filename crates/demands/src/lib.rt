@@ -1,0 +1,143 @@
+// Stores what a line of DEMANDS says, as serieslines reads it: the first line of a junction takes the place of the demand of its own line.
+ghost use mathlib.Core.Path.{_≡_};
+ghost use mathlib.Core.List.{List, [], _∷_};
+ghost use Prim.Native.Nat.{ℕ, _+_, _*_, _≤_, _<_};
+ghost use lib.ListN.{length, take, getD};
+ghost use Rattle.fields.specs.Fields.{fieldsAt, nameIn, Fits};
+ghost use Rattle.scope.specs.Sections.{roomDemands};
+ghost use Rattle.scope.specs.Records.{Network};
+ghost use Rattle.scope.specs.Series.{demandAt, ownFrom, addDemand, setDemand, demandStep};
+ghost use Rattle.scope.specs.Tables.{recordWords, roomNumbers, demandWords};
+ghost use Rattle.takers.specs.Taking.{optIn, MayFit};
+ghost use Rattle.tables.specs.Table.{splice};
+ghost use Rattle.tables.specs.Layout.{demandsAt, demandSize, demandNumbersAt};
+ghost use Rattle.tables.specs.Holding.{Words, Holds, Sound, After, noDemand};
+ghost use Rattle.demands.specs.Storing.{isOwn};
+use scope::Counts;
+use scope::Found;
+use scope::Reason;
+use serieslines::DemandLine;
+use serieslines::DemandRead;
+use tables::Kept;
+
+// Whether demand number k is that of the junction's own line.
+fn is_own(words: &[u64], k: usize, node: usize) -> bool
+    requires { ⌜ (k < roomDemands) × (length (now words) ≡ recordWords) ⌝ }
+    ensures { λ r. ⌜ ((text : List ℕ) (m : Network) → Words text m (now (words .entry)) → k < length (m .demands) → r ≡ isOwn (getD (m .demands) k noDemand) node) ⌝ }
+{
+    let row = tables::DEMANDS + k * tables::DEMAND_WORDS;
+    if words[row] == node as u64 {
+        return words[row + 1] == 1;
+    }
+    false
+}
+
+// The place of the demand of the junction's own line, if it stands still: it is the first in its slot.
+fn own_demand(words: &[u64], demands: usize, node: usize) -> Found
+    requires { ⌜ (demands ≤ roomDemands) × (length (now words) ≡ recordWords) ⌝ }
+    ensures { λ r. ⌜ ((text : List ℕ) (m : Network) → Words text m (now (words .entry)) → demands ≡ length (m .demands) → r ≡ ownFrom 0 node (m .demands)) ⌝ }
+{
+    let k = tables::first_in_slot(words, tables::DEMAND_SLOTS + node % 256, demands);
+    if k < demands {
+        if is_own(words, k, node) {
+            return Found::At(k);
+        }
+    }
+    Found::Nowhere
+}
+
+// Demand number k.
+fn put_demand(
+    text: &[u8],
+    d: DemandLine,
+    node: usize,
+    k: usize,
+    words: &mut [u64],
+    numbers: &mut [f64],
+)
+    requires { ⌜ (k < roomDemands) × (length (now words) ≡ recordWords) × (length (now numbers) ≡ roomNumbers) ⌝ }
+    ensures { λ _. ⌜ (now (words .exit) ≡ splice (now (words .entry)) (demandsAt + k * demandSize) (demandWords (demandAt node (d .base) (optIn (now (text .entry)) (d .pattern))))) × (now (numbers .exit) ≡ splice (now (numbers .entry)) (demandNumbersAt + k) (d .base ∷ [])) ⌝ }
+{
+    let pattern = d.pattern;
+    let p = tables::name_words(text, pattern);
+    tables::paste_words(
+        words,
+        tables::DEMANDS + k * tables::DEMAND_WORDS,
+        &[node as u64, 0, p[0], p[1], 0],
+    );
+    tables::paste_numbers(numbers, tables::DEMAND_NUMBERS + k, &[d.base]);
+}
+
+// The junction's own demand gives its room to its first line.
+fn add_demand(
+    text: &[u8],
+    d: DemandLine,
+    node: usize,
+    s: Counts,
+    words: &mut [u64],
+    numbers: &mut [f64],
+) -> Kept
+    requires { ⌜ Sound (now text) s (now words) (now numbers) × MayFit (now text) (d .pattern) × (node < s .nodes) ⌝ }
+    ensures { λ r. ⌜ ((m : Network) → Holds (now (text .entry)) m s (now (words .entry)) (now (numbers .entry))
+        → After (now (text .entry)) (addDemand node (d .base) (optIn (now (text .entry)) (d .pattern)) m) r (now (words .entry)) (now (numbers .entry)) (now (words .exit)) (now (numbers .exit))) ⌝ }
+{
+    let n = s.demands;
+    let own = own_demand(words, n, node);
+    match own {
+        Found::At(k) => {
+            put_demand(text, d, node, k, words, numbers);
+            Kept::Stored(s)
+        }
+        Found::Nowhere => {
+            if n < 512 {
+                put_demand(text, d, node, n, words, numbers);
+                tables::mark(words, tables::DEMAND_SLOTS + node % 256, n);
+                let mut t = s;
+                t.demands = n + 1;
+                return Kept::Stored(t);
+            }
+            Kept::Refused(Reason::Full)
+        }
+    }
+}
+
+fn store_demand(
+    text: &[u8],
+    d: DemandLine,
+    s: Counts,
+    words: &mut [u64],
+    numbers: &mut [f64],
+) -> Kept
+    requires { ⌜ Sound (now text) s (now words) (now numbers) × Fits (now text) (d .id) × MayFit (now text) (d .pattern) ⌝ }
+    ensures { λ r. ⌜ ((m : Network) → Holds (now (text .entry)) m s (now (words .entry)) (now (numbers .entry))
+        → After (now (text .entry)) (setDemand (nameIn (now (text .entry)) (d .id)) (d .base) (optIn (now (text .entry)) (d .pattern)) m) r (now (words .entry)) (now (numbers .entry)) (now (words .exit)) (now (numbers .exit))) ⌝ }
+{
+    let found = tables::find_node(text, words, s.nodes, fields::letters_of(text, d.id));
+    let Found::At(i) = found else {
+        return Kept::Refused(Reason::NotFound);
+    };
+    if tables::is_junction(words, i) {
+        return add_demand(text, d, i, s, words, numbers);
+    }
+    Kept::Refused(Reason::WrongKind)
+}
+
+// The line of DEMANDS from `at` to `end`.
+pub fn demand_line(
+    text: &[u8],
+    at: usize,
+    end: usize,
+    s: Counts,
+    words: &mut [u64],
+    numbers: &mut [f64],
+) -> Kept
+    requires { ⌜ Sound (now text) s (now words) (now numbers) × (end ≤ length (now text)) ⌝ }
+    ensures { λ r. ⌜ ((m : Network) → Holds (now (text .entry)) m s (now (words .entry)) (now (numbers .entry))
+        → After (now (text .entry)) (demandStep (fieldsAt (take end (now (text .entry))) at) m) r (now (words .entry)) (now (numbers .entry)) (now (words .exit)) (now (numbers .exit))) ⌝ }
+{
+    let read = serieslines::read_demand(&text[..end], at);
+    match read {
+        DemandRead::Demand(d) => store_demand(text, d, s, words, numbers),
+        DemandRead::NoDemand(why) => Kept::Refused(why),
+    }
+}

@@ -1,0 +1,61 @@
+-- `patterns::pattern_line` meets its contract. Assumes nothing.
+use denote.Ref.{now}
+use mathlib.Core.Path.{_≡_, refl, sym, subst}
+use lib.ListN.{take}
+use lib.Seq.{length-take-le}
+use Rattle.fields.specs.Fields.{fieldsAt}
+use Rattle.scope.specs.Values.{bad}
+use Rattle.takers.proofs.TextLaws.{fits-text}
+use Rattle.serieslines.specs.Lines.{patternOf, PatternAs, PatternIs}
+use Rattle.serieslines.specs.declared.PatternRead.{PatternRead}
+use Rattle.patterns.proofs.StepLaws.{pattern-good, pattern-bad}
+use borrow.Author.Needs.{needs}
+use Rattle.patterns.proofs.pattern_line.Statement.{statement}
+use Rattle.patterns.proofs.pattern_line.Tie as tie
+
+is-read : (c : tie.After-known-told) → PatternIs (take (c .before .before .before .before .before .before .before .before .args .end) (now (c .before .before .before .before .before .before .before .before .args .text))) (patternOf (fieldsAt (take (c .before .before .before .before .before .before .before .before .args .end) (now (c .before .before .before .before .before .before .before .before .args .text))) (c .before .before .before .before .before .before .before .before .args .at))) (c .before .read .given .0 .0)
+is-read c = subst (λ (x : PatternRead). PatternAs (take (c .before .before .before .before .before .before .before .before .args .end) (now (c .before .before .before .before .before .before .before .before .args .text))) (patternOf (fieldsAt (take (c .before .before .before .before .before .before .before .before .args .end) (now (c .before .before .before .before .before .before .before .before .args .text))) (c .before .before .before .before .before .before .before .before .args .at))) x) (c .before .read .given .1) (c .before .before .before .read-pattern .ensures)
+
+no-read : (c : tie.After-known-told2) → patternOf (fieldsAt (take (c .before .before .before .before .before .before .before .before .args .end) (now (c .before .before .before .before .before .before .before .before .args .text))) (c .before .before .before .before .before .before .before .before .args .at)) ≡ bad (c .before .read2 .given .0 .0)
+no-read c = subst (λ (x : PatternRead). PatternAs (take (c .before .before .before .before .before .before .before .before .args .end) (now (c .before .before .before .before .before .before .before .before .args .text))) (patternOf (fieldsAt (take (c .before .before .before .before .before .before .before .before .args .end) (now (c .before .before .before .before .before .before .before .before .args .text))) (c .before .before .before .before .before .before .before .before .args .at))) x) (c .before .read2 .given .1) (c .before .before .before .read-pattern .ensures)
+
+slice-aggregate-line : tie.Need-slice-aggregate-line
+slice-aggregate-line c = sym (length-take-le (c .before .before .before .before .args .end) (now (c .before .before .before .before .args .text)) (c .before .before .before .before .pre .1))
+
+read-pattern-requires : tie.Need-read-pattern-requires
+read-pattern-requires c κs = search needs
+
+enum-known-read : tie.Need-enum-known-read
+enum-known-read c = search needs
+
+store-pattern-requires : tie.Need-store-pattern-requires
+store-pattern-requires c κs = let r = is-read (c .before .before) in (c .before .before .before .before .before .before .before .before .before .before .pre .0, fits-text (now (c .before .before .before .before .before .before .before .before .before .before .args .text)) (c .before .before .before .before .before .before .before .before .before .before .args .end) (c .before .before .before .read .given .0 .0 .id) (r .fits), (r .values, r .read, r .long))
+
+enum-known-read-2 : tie.Need-enum-known-read-2
+enum-known-read-2 c = search needs
+
+same-length : tie.Need-same-length
+same-length c = search needs
+
+same-length-2 : tie.Need-same-length-2
+same-length-2 c = search needs
+
+returns : tie.Need-returns
+returns c = λ m h. let r = is-read (c .before .before .before .before .before .before .before) in rw (pattern-good (now (c .before .before .before .before .before .before .before .before .before .before .before .before .before .before .before .args .text)) (c .before .before .before .before .before .before .before .before .before .before .before .before .before .before .before .args .end) (c .before .before .before .before .before .before .before .before .before .before .before .before .before .before .before .args .at) m (c .before .before .before .before .before .before .before .before .read .given .0 .0 .id) (r .values) (r .whole) (r .fits)) (c .before .before .before .before .store-pattern .ensures m (r .values) h (r .read))
+
+returns-2 : tie.Need-returns-2
+returns-2 c = λ m h. rw (pattern-bad (now (c .before .before .before .before .before .before .before .before .args .text)) (c .before .before .before .before .before .before .before .before .args .end) (c .before .before .before .before .before .before .before .before .args .at) m _ (no-read c)) (refl, refl, refl)
+
+pub pattern-line-spec : {M : Type 1} → statement M
+pattern-line-spec =
+    tie.close
+    (tie.spec
+    slice-aggregate-line
+    read-pattern-requires
+    enum-known-read
+    store-pattern-requires
+    enum-known-read-2
+    same-length
+    same-length-2
+    returns
+    returns-2)

@@ -1,6 +1,0 @@
--- What the proofs of this crate use.
-pub mod StepLaws
-pub mod StoringLaws
-pub mod PatternStoreLaws
-pub mod CurveLaws
-pub mod DemandLaws
