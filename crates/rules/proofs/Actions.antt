@@ -13,8 +13,8 @@ use Rattle.scope.specs.Rules.{Draft, noDraft, conditionOf, actionOf, linesOf}
 use Rattle.clauses.specs.Clauses.{ruleWord}
 use Rattle.clauses.specs.declared.RuleWord.{RuleWord}
 use Rattle.clauses.specs.declared.RuleWord.the-variants as word
-use Rattle.rules.specs.Group.{Said, saidId, saidRank, saidCondition, saidAction, told, andSaid, saidBy, saidOf}
-use Rattle.rules.proofs.LineLaws.{line-said}
+use Rattle.rulelines.specs.Lines.{Said, saidId, saidRank, saidCondition, saidAction, told, andSaid, saidBy, saidOf}
+use Rattle.rulelines.proofs.LineLaws.{line-said}
 
 -- the actions among some clauses
 abbrev pub actionsIn : List Clause → List Action

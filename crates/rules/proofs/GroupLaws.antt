@@ -1,60 +1,39 @@
--- A group's lines, read one after another: to judge the group, and then to store its clauses. Assumes nothing.
-use Prim.Native.Nat.{ℕ, suc, _+_, _-_, _*_, _≤_, _<_}
+-- A group's clauses stored one after another, and then its rule. Assumes nothing.
+use Prim.Native.Nat.{ℕ, _+_, _*_, _≤_, _<_}
 use native.Mathlib.Omega.{arith}
-use borrow.Author.Tests.{lt-ltb, le-ltb, le-leb, lt-leb}
-use mathlib.Core.Path.{_≡_, refl, sym, ap, ap₂, _∙_, subst}
-use mathlib.Core.Bool.{Bool, true, false, cond, _||_, _&&_}
+use mathlib.Core.Path.{_≡_, refl, sym, ap, _∙_, subst}
+use mathlib.Core.Bool.{Bool}
 use mathlib.Core.List.{List, [], _∷_, _++_, append-assoc, append-nil}
 use mathlib.Core.Option.{Option, none, some}
 use lib.ListN.{length, take, getD, length-append}
-use lib.Dec.{ltb, leb}
 use lib.Ieee.{Float}
-use Rattle.fields.specs.Fields.{Name, part, nameIn, fieldsAt, Fits}
+use Rattle.fields.specs.Fields.{Name, nameIn, fieldsAt}
 use Rattle.fields.specs.declared.Span.{Span}
-use Rattle.fields.specs.declared.Field.{Field}
-use Rattle.fields.specs.declared.Field.the-variants.{Taken, Nothing}
 use Rattle.scope.specs.declared.Reason.{Reason}
-use Rattle.scope.specs.declared.Reason.the-variants.{Used, NoCondition, NoAction, NoId, Full}
-use Rattle.scope.specs.declared.Found.{Found}
-use Rattle.scope.specs.declared.Found.the-variants.{At, Nowhere}
 use Rattle.scope.specs.declared.Counts.{Counts}
-use Rattle.scope.specs.Records.{Network, Rule, Clause, condition, action, countsOf, withClauses, withRules, linkIds, ruleIds, lookup}
+use Rattle.scope.specs.Records.{Network, Rule, Clause, condition, action, countsOf, withClauses}
 use Rattle.scope.specs.Values.{Read, good, bad, onRead}
-use Rattle.scope.specs.Tables.{ruleWords, countWords, idWords}
-use Rattle.scope.specs.Rules.{Draft, lineOf, linesOf, noDraft, isCondition, isAction, some?, withClause, withRule, addRule, judged, groupStep}
+use Rattle.scope.specs.Tables.{ruleWords, countWords, idWords, nameWords}
+use Rattle.scope.specs.Rules.{Draft, linesOf, noDraft, withClause, withRule, judged, groupStep}
 use Rattle.tables.specs.Table.{splice}
-use Rattle.tables.specs.Layout.{rulesAt, ruleSize, clausesAt, clauseSize, clauseNumbersAt}
-use Rattle.tables.specs.Holding.{Words, Holds, Sound, After}
-use Rattle.tables.specs.declared.Kept.{Kept}
+use Rattle.tables.specs.Layout.{rulesAt, ruleSize}
+use Rattle.tables.specs.Holding.{Holds, After}
 use Rattle.tables.specs.declared.Kept.the-variants.{Stored, Refused}
-use Rattle.tables.proofs.HoldLaws.{sits-span, add-rule, add-clause, count-links, count-rules, count-clauses, bound-links}
-use Rattle.tables.proofs.AfterLaws.{holds-words, holds-numbers}
-use Rattle.clauses.specs.Clauses.{optIn, MayFit, conditionIn}
+use Rattle.tables.proofs.HoldLaws.{sits-span, add-rule, add-clause, count-links, count-rules, count-clauses}
+use Rattle.clauses.specs.Clauses.{conditionIn}
 use Rattle.headers.specs.Own.{groupFields, NextHere}
-use Rattle.rules.specs.declared.LineRead.{LineRead}
-use Rattle.rules.specs.declared.LineRead.the-variants as line
-use Rattle.rules.specs.declared.Sketch.{Sketch}
-use Rattle.rules.specs.declared.SketchRead.{SketchRead}
-use Rattle.rules.specs.declared.SketchRead.the-variants as sketch
-use Rattle.rules.specs.declared.Judged.{Judged}
-use Rattle.rules.specs.declared.Judged.the-variants as judge
-use Rattle.rules.specs.Group.{actionIn, Said, saidId, saidRank, saidCondition, saidAction, told, saidOf, saidRead, LineFits, rankIn, ruleIn, Sketched, SketchAs, Fine, JudgedAs, Room, PutClause, Put, HoldsMore, Started, Sketching}
-use Rattle.rules.proofs.LineLaws.{line-said, line-fits-text, said-text, clauses-more}
-
--- ---- the lines read so far
-pub record Going (m : Network) (text : List ℕ) (at first p : ℕ) (q : Sketch) : Type 0 where
-  pub d : Draft
-  pub same : linesOf m noDraft (groupFields text at first) ≡ linesOf m d (groupFields text at p)
-  pub sketched : Sketched text d q
-  pub below : length (d .clauses) ≤ p
-
-abbrev pub going-start : (m : Network) (text : List ℕ) (at first : ℕ) (q : Sketch) → Sketched text noDraft q → Going m text at first first q
-going-start m text at first q h = record { d = noDraft; same = refl; sketched = h; below = omega arith }
-
-pub going-end : {m : Network} {text : List ℕ} {at first p : ℕ} {q : Sketch} → Going m text at first p q → groupFields text at p ≡ []
-    → SketchAs text (linesOf m noDraft (groupFields text at first)) (sketch.Good q)
-unfolding linesOf
-going-end g e = (g .d, g .same ∙ rw e, g .sketched)
+use Rattle.rulelines.specs.declared.LineRead.{LineRead}
+use Rattle.rulelines.specs.declared.LineRead.the-variants as line
+use Rattle.rulelines.specs.Lines.{actionIn, Said, saidId, saidRank, saidCondition, saidAction, told, saidOf, saidRead, LineFits}
+use Rattle.rulelines.proofs.LineLaws.{line-said, clauses-more}
+use Rattle.judging.specs.declared.Sketch.{Sketch}
+use Rattle.judging.specs.declared.SketchRead.{SketchRead}
+use Rattle.judging.specs.declared.SketchRead.the-variants as sketch
+use Rattle.judging.specs.declared.Judged.{Judged}
+use Rattle.judging.specs.declared.Judged.the-variants as judge
+use Rattle.judging.specs.Sketches.{Sketched, SketchAs, Fine, JudgedAs}
+use Rattle.judging.proofs.GoingLaws.{Going, going-start, lines-are, seen-good, going-with}
+use Rattle.rules.specs.Group.{ruleIn, Room, PutClause, Put, HoldsMore, Started, Sketching}
 
 -- the clauses only grow
 lines-grow : (m : Network) (ls : List (List Name)) (d e : Draft) → linesOf m d ls ≡ good e → length (d .clauses) ≤ length (e .clauses)
@@ -91,57 +70,9 @@ pub record Putting (m : Network) (e : Draft) (text : List ℕ) (at first p : ℕ
   pub room : length (m .clauses) + length (e .clauses) ≤ 512
   pub held : HoldsMore text m (going .d .clauses) w f
 
--- one line more: what was read of it, r, and what was seen then, v
+-- one line more: what was read of it, r
 module _ {m : Network} {text : List ℕ} {at first p : ℕ} {q : Sketch} (g : Going m text at first p q) (s : Span) (h : NextHere text at p s) (l : List ℕ) (el : l ≡ take (s .end) text)
     (r : LineRead) (er : saidRead l r ≡ saidOf m (q .acting) (q .otherwise) (fieldsAt l (s .at))) (fr : LineFits l r) where
-  fits-line : LineFits (take (s .end) text) r
-  fits-line = subst (λ (x : List ℕ). LineFits x r) el fr
-
-  pub line-fits : LineFits text r
-  line-fits = line-fits-text text (s .end) r fits-line
-
-  line-is : lineOf m (g .d) (fieldsAt (take (s .end) text) (s .at)) ≡ onRead (saidRead text r) (λ x. good (told x (g .d)))
-  line-is =
-      let k : saidOf m (g .d .acting) (g .d .otherwise) (fieldsAt (take (s .end) text) (s .at)) ≡ saidRead text r =
-      ap₂ (λ (t u : Bool). saidOf m t u (fieldsAt (take (s .end) text) (s .at))) (g .sketched .acting) (g .sketched .otherwise)
-      ∙ ap (λ (x : List ℕ). saidOf m (q .acting) (q .otherwise) (fieldsAt x (s .at))) (sym el)
-      ∙ sym er
-      ∙ ap (λ (x : List ℕ). saidRead x r) el
-      ∙ said-text text (s .end) r fits-line in
-      line-said m (g .d) (fieldsAt (take (s .end) text) (s .at)) ∙ ap (λ (o : Read Said). onRead o (λ x. good (told x (g .d)))) k
-
-  lines-are : linesOf m (g .d) (groupFields text at p) ≡ onRead (onRead (saidRead text r) (λ x. good (told x (g .d)))) (λ e. linesOf m e (groupFields text at (s .end)))
-  unfolding linesOf
-  lines-are = rw (h .whole, line-is)
-
-  grown : (o : Read Said) (e : Draft) → onRead o (λ x. good (told x (g .d))) ≡ good e → (length (g .d .clauses) ≤ length (e .clauses)) × (length (e .clauses) ≤ length (g .d .clauses) + 1)
-  grown (good x) e k = let z : told x (g .d) ≡ e = cc in rw z at (clauses-more x (g .d))
-  grown (bad why) e k = absurd (let z : _≡_ {A = ℕ} 0 1 = cc in omega arith)
-
-  next-same : (e : Draft) → onRead (saidRead text r) (λ x. good (told x (g .d))) ≡ good e → linesOf m noDraft (groupFields text at first) ≡ linesOf m e (groupFields text at (s .end))
-  next-same e k = g .same ∙ lines-are ∙ rw k
-
-  next-below : (e : Draft) → onRead (saidRead text r) (λ x. good (told x (g .d))) ≡ good e → length (e .clauses) ≤ s .end
-  next-below e k = omega (arith, grown (saidRead text r) e k .1, g .below, h .after, h .some)
-
-  abbrev going-with : (e : Draft) (next : Sketch) → onRead (saidRead text r) (λ x. good (told x (g .d))) ≡ good e → Sketched text e next → Going m text at first (s .end) next
-  going-with e next k z = record { d = e; same = next-same e k; sketched = z; below = next-below e k }
-
-  module _ (v : SketchRead) (ev : SketchAs text (onRead (saidRead text r) (λ x. good (told x (g .d)))) v) where
-    seen-good : (next : Sketch) → v ≡ sketch.Good next → (e : Draft) × (onRead (saidRead text r) (λ x. good (told x (g .d))) ≡ good e) × Sketched text e next
-    seen-good next e = subst (λ (x : SketchRead). SketchAs text (onRead (saidRead text r) (λ x. good (told x (g .d)))) x) e ev
-
-    pub going-on : (next : Sketch) → v ≡ sketch.Good next → Going m text at first (s .end) next
-    going-on next e = let k = seen-good next e in going-with (k .0) next (k .1) (k .2)
-
-    pub going-bad : (why : Reason) → v ≡ sketch.Refused why → linesOf m noDraft (groupFields text at first) ≡ bad why
-    going-bad why e =
-        let k = subst (λ (x : SketchRead). SketchAs text (onRead (saidRead text r) (λ x. good (told x (g .d)))) x) e ev in
-        g .same ∙ lines-are ∙ rw k
-
-    pub never-bad : {A : Type 0} {e : Draft} → linesOf m noDraft (groupFields text at first) ≡ good e → (why : Reason) → v ≡ sketch.Refused why → A
-    never-bad whole why e2 = absurd (let k = going-bad why e2 in let z : _≡_ {A = ℕ} 0 1 = cc in omega arith)
-
   -- there is room for the line's clause
   module _ {e : Draft} (whole : linesOf m noDraft (groupFields text at first) ≡ good e) (room : length (m .clauses) + length (e .clauses) ≤ 512) where
     more-room : (n : ℕ) (c : Clause) (t u : Bool) → n ≡ length (m .clauses) + q .clauses → linesOf m (withClause t u c (g .d)) (groupFields text at (s .end)) ≡ good e → n < 512
@@ -157,7 +88,7 @@ module _ {m : Network} {text : List ℕ} {at first p : ℕ} {q : Sketch} (g : Go
     room-by n (line.Refused why) en k = tt
 
     pub room-for : (n : ℕ) → n ≡ length (m .clauses) + q .clauses → Room n r
-    room-for n en = room-by n r en (sym lines-are ∙ sym (g .same) ∙ whole)
+    room-for n en = room-by n r en (sym (lines-are g s h l el r er fr) ∙ sym (g .same) ∙ whole)
 
   -- the line is stored
   module _ {e : Draft} {w w2 : List ℕ} {f f2 : List Float} (whole : linesOf m noDraft (groupFields text at first) ≡ good e) (room : length (m .clauses) + length (e .clauses) ≤ 512)
@@ -172,54 +103,8 @@ module _ {m : Network} {text : List ℕ} {at first p : ℕ} {q : Sketch} (g : Go
 
     pub putting-on : (next : Sketch) → v ≡ sketch.Good next → Putting m e text at first (s .end) next w2 f2
     putting-on next en2 =
-        let k = seen-good v ev next en2 in
-        record { going = going-with (k .0) next (k .1) (k .2); whole = whole; room = room; held = held-on (saidRead text r) (k .0) refl (k .1) }
-
-pub falls : {text : List ℕ} {at p : ℕ} {s : Span} → NextHere text at p s → length (groupFields text at (s .end)) < length (groupFields text at p)
-falls {text} {at} {p} {s} h = omega (arith, ap length (h .whole))
-
--- ---- the group judged
-module _ {text : List ℕ} {d : Draft} {q : Sketch} (k : Sketched text d q) (m : Network) where
-  pub no-condition : q .conditions ≡ false → judged d m ≡ bad NoCondition
-  unfolding judged
-  no-condition e = rw (k .conditions ∙ e)
-
-  module _ (ec : q .conditions ≡ true) where
-    pub no-action : q .actions ≡ false → judged d m ≡ bad NoAction
-    unfolding judged
-    no-action e = rw (k .conditions ∙ ec, k .actions ∙ e)
-
-    module _ (ea : q .actions ≡ true) where
-      pub no-id : q .id ≡ Nothing → judged d m ≡ bad NoId
-      unfolding judged
-      no-id e = rw (k .conditions ∙ ec, k .actions ∙ ea, k .id ∙ ap (optIn text) e)
-
-      module _ (id : Span) (ei : q .id ≡ Taken id) where
-        is-added : judged d m ≡ addRule (nameIn text id) d m
-        unfolding judged
-        is-added = rw (k .conditions ∙ ec, k .actions ∙ ea, k .id ∙ ap (optIn text) ei)
-
-        pub used : {i : ℕ} → lookup (ruleIds m) (part (id .at) (id .end) text) ≡ At i → judged d m ≡ bad Used
-        unfolding addRule
-        used e = is-added ∙ rw e
-
-        module _ (free : lookup (ruleIds m) (part (id .at) (id .end) text) ≡ Nowhere) where
-          pub rules-full : 64 ≤ length (m .rules) → judged d m ≡ bad Full
-          unfolding addRule
-          rules-full h = is-added ∙ rw (free, le-ltb (length (m .rules)) 64 h)
-
-          pub clauses-full : length (m .rules) < 64 → 512 < length (m .clauses) + length (d .clauses) → judged d m ≡ bad Full
-          unfolding addRule
-          clauses-full h h2 = is-added ∙ rw (free, lt-ltb (length (m .rules)) 64 h, lt-leb (length (m .clauses) + length (d .clauses)) 512 h2)
-
-          pub rule-fits : length (m .rules) < 64 → length (m .clauses) + length (d .clauses) ≤ 512 → Fine text d m (judged d m) id
-          unfolding addRule
-          rule-fits h h2 = record {
-            whole = is-added ∙ rw (free, lt-ltb (length (m .rules)) 64 h, le-leb (length (m .clauses) + length (d .clauses)) 512 h2);
-            fits = subst (λ (f : Field). MayFit text f) ei (k .fit);
-            rules = h;
-            clauses = h2;
-          }
+        let k = seen-good g s h l el r er fr v ev next en2 in
+        record { going = going-with g s h l el r er fr (k .0) next (k .1) (k .2); whole = whole; room = room; held = held-on (saidRead text r) (k .0) refl (k .1) }
 
 pub putting-start : {text : List ℕ} {at first : ℕ} {m : Network} {e : Draft} {base links : ℕ} {w : List ℕ} {f : List Float} (q : Sketch)
     → Started text at first m e base links w f → Sketched text noDraft q → Putting m e text at first first q w f
@@ -243,7 +128,11 @@ pub put-bound : {m : Network} {e : Draft} {text : List ℕ} {at first p : ℕ} {
 put-bound {m} {e} {text} {at} {first} {p} h =
     omega (arith, h .room, h .going .sketched .long, lines-grow m (groupFields text at p) (h .going .d) e (sym (h .going .same) ∙ h .whole))
 
--- the words of a rule
+-- ---- the words of a clause's name, and of a rule
+pub name-row : (a b c d v v′ : ℕ) (k : List ℕ) (o : Option Name) → v ≡ v′ → k ≡ nameWords o → a ∷ b ∷ c ∷ d ∷ v ∷ getD k 0 0 ∷ getD k 1 0 ∷ [] ≡ a ∷ b ∷ c ∷ d ∷ v′ ∷ nameWords o
+name-row a b c d v v′ k none e f = rw (e, f)
+name-row a b c d v v′ k (some n) e f = rw (e, f)
+
 pub rule-row : (k r : List ℕ) (first count : ℕ) (n : Name) (o : Option ℕ) → k ≡ idWords n → r ≡ countWords o
     → getD k 0 0 ∷ getD k 1 0 ∷ getD k 2 0 ∷ first ∷ count ∷ getD r 0 0 ∷ getD r 1 0 ∷ [] ≡ idWords n ++ (first ∷ count ∷ countWords o)
 rule-row k r first count n none e f = rw (e, f)

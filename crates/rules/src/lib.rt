@@ -1,423 +1,34 @@
-// Reads a rule group when it closes: its stretch of text is read again, line by line, first to judge it and then to store its clauses.
+// Closes a rule group: its stretch of text is read again, line by line, first to judge it and then to store its clauses, and the rule after them.
 ghost use mathlib.Core.Path.{_≡_};
-ghost use mathlib.Core.Bool.{false};
-ghost use mathlib.Core.List.{List, [], _∷_};
-ghost use Prim.Native.Nat.{ℕ, _+_, _*_, _≤_, _<_};
+ghost use mathlib.Core.List.{[], _∷_};
+ghost use Prim.Native.Nat.{_+_, _*_, _<_};
 ghost use lib.ListN.{length};
-ghost use Rattle.fields.specs.Fields.{fieldsAt, nameIn, part, Fits};
-ghost use Rattle.scope.specs.Records.{Network, linkIds, lookup};
-ghost use Rattle.scope.specs.Values.{good, onRead, countFrom};
+ghost use Rattle.scope.specs.Records.{Network};
 ghost use Rattle.scope.specs.Records as clause;
 ghost use Rattle.scope.specs.Tables.{valueNo, nameWords, valueNumber, countWords, ruleWords};
-ghost use Rattle.scope.specs.Rules.{Draft, actionOf, linesOf, noDraft, judged, groupStep};
+ghost use Rattle.scope.specs.Rules.{Draft, judged, groupStep};
 ghost use Rattle.tables.specs.Table.{splice};
 ghost use Rattle.tables.specs.Layout.{rulesAt, ruleSize, clausesAt, clauseSize, clauseNumbersAt};
-ghost use Rattle.tables.specs.Holding.{Words, Holds, Sound, After};
-ghost use Rattle.clauses.specs.Clauses.{optIn, valueRead, conditionIn, conditionRead, ConditionFits, headIn, actionWith, actionAt};
+ghost use Rattle.tables.specs.Holding.{Holds, Sound, After};
+ghost use Rattle.clauses.specs.Clauses.{optIn, conditionIn};
 ghost use Rattle.headers.specs.Own.{groupFields};
-ghost use Rattle.rules.specs.Group.{actionIn, actionRead, ActionFits, saidRank, saidCondition, saidAction, idSaid, saidRead, LineFits, saidOf, saidBy, andSaid, told, rankIn, ruleIn, Sketched, SketchAs, Room, PutClause, Put, JudgedAs, Started, HoldsMore, Sketching};
-use clauses::ActionHead;
-use clauses::ConditionRead;
-use clauses::HeadRead;
-use clauses::KindRead;
-use clauses::RuleWord;
-use clauses::ValueRead;
-use counts::Count;
+ghost use Rattle.rulelines.specs.Lines.{actionIn};
+ghost use Rattle.judging.specs.Sketches.{rankIn};
+ghost use Rattle.rules.specs.Group.{ruleIn, Room, PutClause, Put, Started, HoldsMore, Sketching};
 use fields::Field;
 use fields::Span;
 use headers::OwnLine;
+use judging::Judged;
+use judging::Sketch;
+use judging::SketchRead;
+use rulelines::LineRead;
 use scope::Action;
 use scope::Condition;
 use scope::Counts;
-use scope::Found;
-use scope::Operator;
-use scope::Reason;
 use scope::Value;
 use tables::Kept;
 
-// ---- actions
-
-pub enum ActionRead {
-    Read(Action),
-    Refused(Reason),
-}
-
-fn action_value(read: ValueRead, link: usize, name: Span, otherwise: bool) -> ActionRead
-    ensures { λ r. ⌜ ((l : List ℕ) → actionRead l r ≡ onRead (valueRead read) (λ v. good (actionWith otherwise link (nameIn l name) v))) ⌝ }
-    ensures { λ r. ⌜ ((l : List ℕ) → Fits l name → ActionFits l r) ⌝ }
-{
-    match read {
-        ValueRead::Read(value) => ActionRead::Read(Action {
-            link,
-            name,
-            value,
-            otherwise,
-        }),
-        ValueRead::Refused(why) => ActionRead::Refused(why),
-    }
-}
-
-// What an action does to the link of its id.
-fn action_at(
-    l: &[u8],
-    head: ActionHead,
-    otherwise: bool,
-    text: &[u8],
-    words: &[u64],
-    links: usize,
-) -> ActionRead
-    requires { ⌜ ((m : Network) × Words (now text) m (now words) × (links ≡ length (m .links))) ⌝ }
-    ensures { λ r. ⌜ ((m : Network) → Words (now (text .entry)) m (now (words .entry)) → links ≡ length (m .links)
-        → actionRead (now (l .entry)) r ≡ actionAt otherwise m (headIn (now (l .entry)) head) (fieldsAt (now (l .entry)) (head .id .end)) (lookup (linkIds m) (part (head .id .at) (head .id .end) (now (l .entry))))) ⌝ }
-    ensures { λ r. ⌜ (Fits (now (l .entry)) (head .id) → ActionFits (now (l .entry)) r) ⌝ }
-{
-    let id = head.id;
-    let kind = head.kind;
-    let found = tables::find_link(text, words, links, fields::letters_of(l, id));
-    let Found::At(i) = found else {
-        return ActionRead::Refused(Reason::NotFound);
-    };
-    let pipe = tables::is_pipe(words, i);
-    let pump = tables::is_pump(words, i);
-    let valve = tables::is_valve(words, i);
-    let fits = clauses::kind_fits(fields::letters_of(l, kind), pipe, pump, valve);
-    match fits {
-        KindRead::Fits => action_value(clauses::read_deed(l, id.end), i, id, otherwise),
-        KindRead::Refused(why) => ActionRead::Refused(why),
-    }
-}
-
-// The action after a line's first word.
-fn read_rule_action(
-    l: &[u8],
-    at: usize,
-    otherwise: bool,
-    text: &[u8],
-    words: &[u64],
-    links: usize,
-) -> ActionRead
-    requires { ⌜ ((m : Network) × Words (now text) m (now words) × (links ≡ length (m .links))) ⌝ }
-    ensures { λ r. ⌜ ((m : Network) → Words (now (text .entry)) m (now (words .entry)) → links ≡ length (m .links)
-        → actionRead (now (l .entry)) r ≡ actionOf otherwise m (fieldsAt (now (l .entry)) at)) ⌝ }
-    ensures { λ r. ⌜ ActionFits (now (l .entry)) r ⌝ }
-{
-    let read = clauses::read_action_head(l, at);
-    match read {
-        HeadRead::Read(head) => action_at(l, head, otherwise, text, words, links),
-        HeadRead::Refused(why) => ActionRead::Refused(why),
-    }
-}
-
-// ---- a line of a group
-
-// An action, and whether a THEN and an ELSE were read with it or before it.
-pub struct Acted {
-    pub action: Action,
-    pub acting: bool,
-    pub otherwise: bool,
-}
-
-// What a line says.
-pub enum LineRead {
-    Named(Span),
-    Ranked(u64),
-    Condition(Condition),
-    Action(Acted),
-    Refused(Reason),
-}
-
-fn as_condition(read: ConditionRead) -> LineRead
-    ensures { λ r. ⌜ ((l : List ℕ) → saidRead l r ≡ onRead (conditionRead l read) (λ c. good (saidCondition c))) ⌝ }
-    ensures { λ r. ⌜ ((l : List ℕ) → ConditionFits l read → LineFits l r) ⌝ }
-{
-    match read {
-        ConditionRead::Read(c) => LineRead::Condition(c),
-        ConditionRead::Refused(why) => LineRead::Refused(why),
-    }
-}
-
-fn as_action(read: ActionRead, acting: bool, otherwise: bool) -> LineRead
-    ensures { λ r. ⌜ ((l : List ℕ) → saidRead l r ≡ onRead (actionRead l read) (λ a. good (saidAction acting otherwise a))) ⌝ }
-    ensures { λ r. ⌜ ((l : List ℕ) → ActionFits l read → LineFits l r) ⌝ }
-{
-    match read {
-        ActionRead::Read(action) => LineRead::Action(Acted {
-            action,
-            acting,
-            otherwise,
-        }),
-        ActionRead::Refused(why) => LineRead::Refused(why),
-    }
-}
-
-fn named_line(l: &[u8], at: usize) -> LineRead
-    ensures { λ r. ⌜ saidRead (now (l .entry)) r ≡ idSaid (fieldsAt (now (l .entry)) at) ⌝ }
-    ensures { λ r. ⌜ LineFits (now (l .entry)) r ⌝ }
-{
-    let f = fields::next_field(l, at);
-    let Field::Taken(id) = f else {
-        return LineRead::Refused(Reason::Missing);
-    };
-    LineRead::Named(id)
-}
-
-fn ranked_line(l: &[u8], at: usize) -> LineRead
-    ensures { λ r. ⌜ saidRead (now (l .entry)) r ≡ onRead (countFrom (fieldsAt (now (l .entry)) at)) (λ n. good (saidRank n)) ⌝ }
-    ensures { λ r. ⌜ LineFits (now (l .entry)) r ⌝ }
-{
-    let f = fields::next_field(l, at);
-    let Field::Taken(s) = f else {
-        return LineRead::Refused(Reason::Missing);
-    };
-    let n = counts::read_count(fields::letters_of(l, s));
-    match n {
-        Count::Whole(n) => LineRead::Ranked(n),
-        Count::Uncounted => LineRead::Refused(Reason::Malformed),
-    }
-}
-
-// AND is a condition until a THEN has been read, else an action.
-fn and_line(
-    l: &[u8],
-    at: usize,
-    acting: bool,
-    otherwise: bool,
-    text: &[u8],
-    words: &[u64],
-    links: usize,
-) -> LineRead
-    requires { ⌜ ((m : Network) × Words (now text) m (now words) × (links ≡ length (m .links))) ⌝ }
-    ensures { λ r. ⌜ ((m : Network) → Words (now (text .entry)) m (now (words .entry)) → links ≡ length (m .links)
-        → saidRead (now (l .entry)) r ≡ andSaid acting m otherwise (fieldsAt (now (l .entry)) at)) ⌝ }
-    ensures { λ r. ⌜ LineFits (now (l .entry)) r ⌝ }
-{
-    if acting {
-        return as_action(
-            read_rule_action(l, at, otherwise, text, words, links),
-            true,
-            otherwise,
-        );
-    }
-    as_condition(clauses::read_rule_condition(l, at, Operator::And))
-}
-
-// The line after its first word.
-fn line_by(
-    word: RuleWord,
-    l: &[u8],
-    at: usize,
-    acting: bool,
-    otherwise: bool,
-    text: &[u8],
-    words: &[u64],
-    links: usize,
-) -> LineRead
-    requires { ⌜ ((m : Network) × Words (now text) m (now words) × (links ≡ length (m .links))) ⌝ }
-    ensures { λ r. ⌜ ((m : Network) → Words (now (text .entry)) m (now (words .entry)) → links ≡ length (m .links)
-        → saidRead (now (l .entry)) r ≡ saidBy word m acting otherwise (fieldsAt (now (l .entry)) at)) ⌝ }
-    ensures { λ r. ⌜ LineFits (now (l .entry)) r ⌝ }
-{
-    match word {
-        RuleWord::Rule => named_line(l, at),
-        RuleWord::If => as_condition(clauses::read_rule_condition(l, at, Operator::And)),
-        RuleWord::Or => as_condition(clauses::read_rule_condition(l, at, Operator::Or)),
-        RuleWord::Then => {
-            as_action(
-                read_rule_action(l, at, false, text, words, links),
-                true,
-                otherwise,
-            )
-        }
-        RuleWord::And => and_line(l, at, acting, otherwise, text, words, links),
-        RuleWord::Else => {
-            as_action(
-                read_rule_action(l, at, true, text, words, links),
-                acting,
-                true,
-            )
-        }
-        RuleWord::Priority => ranked_line(l, at),
-        RuleWord::Unknown => LineRead::Refused(Reason::Unknown),
-    }
-}
-
-// The line of `l` from `at` on, where a THEN was read before it or not, and an ELSE.
-fn read_line(
-    l: &[u8],
-    at: usize,
-    acting: bool,
-    otherwise: bool,
-    text: &[u8],
-    words: &[u64],
-    links: usize,
-) -> LineRead
-    requires { ⌜ ((m : Network) × Words (now text) m (now words) × (links ≡ length (m .links))) ⌝ }
-    ensures { λ r. ⌜ ((m : Network) → Words (now (text .entry)) m (now (words .entry)) → links ≡ length (m .links)
-        → saidRead (now (l .entry)) r ≡ saidOf m acting otherwise (fieldsAt (now (l .entry)) at)) ⌝ }
-    ensures { λ r. ⌜ LineFits (now (l .entry)) r ⌝ }
-{
-    let f = fields::next_field(l, at);
-    let Field::Taken(s) = f else {
-        return LineRead::Refused(Reason::Missing);
-    };
-    let word = clauses::rule_word(fields::letters_of(l, s));
-    line_by(word, l, s.end, acting, otherwise, text, words, links)
-}
-
-// ---- a group is judged
-
-// What the lines of a group have said so far; of its clauses only how many there are, and of which kinds.
-pub struct Sketch {
-    pub id: Field,
-    pub ranked: bool,
-    pub priority: u64,
-    pub acting: bool,
-    pub otherwise: bool,
-    pub clauses: usize,
-    pub conditions: bool,
-    pub actions: bool,
-}
-
-pub enum SketchRead {
-    Good(Sketch),
-    Refused(Reason),
-}
-
-fn no_sketch() -> Sketch
-    ensures { λ r. ⌜ ((text : List ℕ) → Sketched text noDraft r) ⌝ }
-{
-    Sketch {
-        id: Field::Nothing,
-        ranked: false,
-        priority: 0,
-        acting: false,
-        otherwise: false,
-        clauses: 0,
-        conditions: false,
-        actions: false,
-    }
-}
-
-// The sketch with one line more.
-fn see(q: Sketch, read: LineRead) -> SketchRead
-    requires { ⌜ q .clauses + 1 < 18446744073709551616 ⌝ }
-    ensures { λ r. ⌜ ((text : List ℕ) (d : Draft) → Sketched text d q → LineFits text read → SketchAs text (onRead (saidRead text read) (λ s. good (told s d))) r) ⌝ }
-{
-    let id = q.id;
-    match read {
-        LineRead::Named(s) => SketchRead::Good(Sketch {
-            id: Field::Taken(s),
-            ranked: q.ranked,
-            priority: q.priority,
-            acting: q.acting,
-            otherwise: q.otherwise,
-            clauses: q.clauses,
-            conditions: q.conditions,
-            actions: q.actions,
-        }),
-        LineRead::Ranked(n) => SketchRead::Good(Sketch {
-            id,
-            ranked: true,
-            priority: n,
-            acting: q.acting,
-            otherwise: q.otherwise,
-            clauses: q.clauses,
-            conditions: q.conditions,
-            actions: q.actions,
-        }),
-        LineRead::Condition(_) => SketchRead::Good(Sketch {
-            id,
-            ranked: q.ranked,
-            priority: q.priority,
-            acting: q.acting,
-            otherwise: q.otherwise,
-            clauses: q.clauses + 1,
-            conditions: true,
-            actions: q.actions,
-        }),
-        LineRead::Action(a) => SketchRead::Good(Sketch {
-            id,
-            ranked: q.ranked,
-            priority: q.priority,
-            acting: a.acting,
-            otherwise: a.otherwise,
-            clauses: q.clauses + 1,
-            conditions: q.conditions,
-            actions: true,
-        }),
-        LineRead::Refused(why) => SketchRead::Refused(why),
-    }
-}
-
-// The lines of the group whose first line stands at `first`, in a text read up to `at`.
-fn judge_lines(text: &[u8], first: usize, at: usize, words: &[u64], links: usize) -> SketchRead
-    requires { ⌜ ((m : Network) × Words (now text) m (now words) × (links ≡ length (m .links))) ⌝ }
-    ensures { λ r. ⌜ ((m : Network) → Words (now (text .entry)) m (now (words .entry)) → links ≡ length (m .links)
-        → SketchAs (now (text .entry)) (linesOf m noDraft (groupFields (now (text .entry)) at first)) r) ⌝ }
-{
-    let mut q = no_sketch();
-    let mut p = first;
-    loop {
-        let own = headers::next_own(text, at, p);
-        let OwnLine::Line(s) = own else {
-            return SketchRead::Good(q);
-        };
-        let read = read_line(
-            letters::cut(text, 0, s.end),
-            s.at,
-            q.acting,
-            q.otherwise,
-            text,
-            words,
-            links,
-        );
-        let seen = see(q, read);
-        match seen {
-            SketchRead::Good(next) => {
-                q = next;
-                p = s.end;
-            }
-            SketchRead::Refused(why) => {
-                return SketchRead::Refused(why);
-            }
-        }
-    }
-}
-
-pub enum Judged {
-    Good(Span),
-    Refused(Reason),
-}
-
-// The group of that sketch: no condition, no action, no id, its id used, no room, in that order.
-fn judge_group(text: &[u8], q: Sketch, words: &[u64], s: Counts) -> Judged
-    requires { ⌜ ((m : Network) × Words (now text) m (now words) × (s .rules ≡ length (m .rules)) × (s .clauses ≤ 512)) ⌝ }
-    ensures { λ r. ⌜ ((m : Network) (d : Draft) → Words (now (text .entry)) m (now (words .entry)) → s .rules ≡ length (m .rules) → s .clauses ≡ length (m .clauses) → Sketched (now (text .entry)) d q
-        → JudgedAs (now (text .entry)) d m (judged d m) r) ⌝ }
-{
-    if q.conditions {
-        if q.actions {
-            let named = q.id;
-            let Field::Taken(id) = named else {
-                return Judged::Refused(Reason::NoId);
-            };
-            let found = tables::find_rule(text, words, s.rules, fields::letters_of(text, id));
-            let Found::Nowhere = found else {
-                return Judged::Refused(Reason::Used);
-            };
-            if s.rules < 64 {
-                if q.clauses <= 512 - s.clauses {
-                    return Judged::Good(id);
-                }
-            }
-            return Judged::Refused(Reason::Full);
-        }
-        return Judged::Refused(Reason::NoAction);
-    }
-    Judged::Refused(Reason::NoCondition)
-}
-
-// ---- a group is stored
+// ---- clauses
 
 // A clause at the place `n`.
 fn put_clause(
@@ -518,14 +129,14 @@ fn put_clauses(
 {
     let base = s.clauses;
     let links = s.links;
-    let mut q = no_sketch();
+    let mut q = judging::no_sketch();
     let mut p = first;
     loop {
         let own = headers::next_own(text, at, p);
         let OwnLine::Line(line) = own else {
             return;
         };
-        let read = read_line(
+        let read = rulelines::read_line(
             letters::cut(text, 0, line.end),
             line.at,
             q.acting,
@@ -535,7 +146,7 @@ fn put_clauses(
             links,
         );
         put_line(text, read, base + q.clauses, words, numbers);
-        let seen = see(q, read);
+        let seen = judging::see(q, read);
         let SketchRead::Good(next) = seen else {
             return;
         };
@@ -543,6 +154,8 @@ fn put_clauses(
         p = line.end;
     }
 }
+
+// ---- the rule of a group
 
 // None is 0 and 0; a priority is 1 and itself.
 fn rank_words(ranked: bool, priority: u64) -> [u64; 2]
@@ -583,7 +196,7 @@ fn store_group(
     ensures { λ r. ⌜ ((m : Network) (d : Draft) → Sketching (now (text .entry)) at first m d q s (now (words .entry)) (now (numbers .entry))
         → After (now (text .entry)) (judged d m) r (now (words .entry)) (now (numbers .entry)) (now (words .exit)) (now (numbers .exit))) ⌝ }
 {
-    let answer = judge_group(text, q, words, s);
+    let answer = judging::judge_group(text, q, words, s);
     match answer {
         Judged::Good(id) => {
             put_clauses(text, first, at, s, words, numbers);
@@ -610,7 +223,7 @@ pub fn close_group(
     ensures { λ r. ⌜ ((m : Network) → Holds (now (text .entry)) m s (now (words .entry)) (now (numbers .entry))
         → After (now (text .entry)) (groupStep (groupFields (now (text .entry)) at first) m) r (now (words .entry)) (now (numbers .entry)) (now (words .exit)) (now (numbers .exit))) ⌝ }
 {
-    let read = judge_lines(text, first, at, words, s.links);
+    let read = judging::judge_lines(text, first, at, words, s.links);
     match read {
         SketchRead::Good(q) => store_group(text, first, at, q, s, words, numbers),
         SketchRead::Refused(why) => Kept::Refused(why),

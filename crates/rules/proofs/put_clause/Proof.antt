@@ -6,7 +6,7 @@ use Prim.Native.Nat.{ℕ, _+_, _*_}
 use mathlib.Core.List.{List}
 use Rattle.tables.specs.Table.{splice}
 use Rattle.tables.specs.Layout.{clausesAt, clauseSize}
-use Rattle.rules.proofs.LineLaws.{name-row}
+use Rattle.rules.proofs.GroupLaws.{name-row}
 use borrow.Author.Needs.{needs}
 use Rattle.rules.proofs.put_clause.Statement.{statement}
 use Rattle.rules.proofs.put_clause.Tie as tie

@@ -9,9 +9,10 @@ use Rattle.scope.specs.Records.{Network, withClauses}
 use Rattle.scope.specs.Rules.{Draft}
 use Rattle.headers.specs.Own.{groupFields}
 use Rattle.tables.proofs.AfterLaws.{holds-words, holds-numbers}
+use Rattle.rulelines.proofs.LineLaws.{said-same}
+use Rattle.judging.proofs.GoingLaws.{never-bad, line-fits, falls}
 use Rattle.rules.specs.Group.{Started}
-use Rattle.rules.proofs.LineLaws.{said-same}
-use Rattle.rules.proofs.GroupLaws.{Putting, putting-start, putting-end, putting-on, never-bad, put-bound, room-for, line-fits, falls}
+use Rattle.rules.proofs.GroupLaws.{Putting, putting-start, putting-end, putting-on, put-bound, room-for}
 use borrow.Author.Needs.{needs}
 use Rattle.rules.proofs.put_clauses.Statement.{statement}
 use Rattle.rules.proofs.put_clauses.Tie as tie

@@ -1,7 +1,7 @@
 -- `rules::put_line` meets its contract. Assumes nothing.
 use mathlib.Core.Path.{_≡_, refl, sym, ap, _∙_, subst}
 use Rattle.rules.specs.Group.{Room}
-use Rattle.rules.specs.declared.LineRead.{LineRead}
+use Rattle.rulelines.specs.declared.LineRead.{LineRead}
 use borrow.Author.Needs.{needs}
 use Rattle.rules.proofs.put_line.Statement.{statement}
 use Rattle.rules.proofs.put_line.Tie as tie

@@ -6,7 +6,7 @@ use mathlib.Core.List.{List}
 use Rattle.fields.specs.Fields.{nameIn}
 use Rattle.tables.specs.Table.{splice}
 use Rattle.tables.specs.Layout.{rulesAt, ruleSize}
-use Rattle.rules.specs.Group.{rankIn}
+use Rattle.judging.specs.Sketches.{rankIn}
 use Rattle.rules.proofs.GroupLaws.{rule-row}
 use borrow.Author.Needs.{needs}
 use Rattle.rules.proofs.put_rule.Statement.{statement}

@@ -1,0 +1,174 @@
+// Judges a rule group before anything of it is stored: its lines, read one after another, make a sketch, and the sketch says whether the group is taken.
+ghost use mathlib.Core.Path.{_≡_};
+ghost use mathlib.Core.List.{List};
+ghost use Prim.Native.Nat.{ℕ, _+_, _≤_, _<_};
+ghost use lib.ListN.{length};
+ghost use Rattle.scope.specs.Records.{Network};
+ghost use Rattle.scope.specs.Values.{good, onRead};
+ghost use Rattle.scope.specs.Rules.{Draft, linesOf, noDraft, judged};
+ghost use Rattle.tables.specs.Holding.{Words};
+ghost use Rattle.headers.specs.Own.{groupFields};
+ghost use Rattle.rulelines.specs.Lines.{told, saidRead, LineFits};
+ghost use Rattle.judging.specs.Sketches.{Sketched, SketchAs, JudgedAs};
+use fields::Field;
+use fields::Span;
+use headers::OwnLine;
+use rulelines::LineRead;
+use scope::Counts;
+use scope::Found;
+use scope::Reason;
+
+// ---- the lines
+
+// What the lines of a group have said so far; of its clauses only how many there are, and of which kinds.
+pub struct Sketch {
+    pub id: Field,
+    pub ranked: bool,
+    pub priority: u64,
+    pub acting: bool,
+    pub otherwise: bool,
+    pub clauses: usize,
+    pub conditions: bool,
+    pub actions: bool,
+}
+
+pub enum SketchRead {
+    Good(Sketch),
+    Refused(Reason),
+}
+
+pub fn no_sketch() -> Sketch
+    ensures { λ r. ⌜ ((text : List ℕ) → Sketched text noDraft r) ⌝ }
+{
+    Sketch {
+        id: Field::Nothing,
+        ranked: false,
+        priority: 0,
+        acting: false,
+        otherwise: false,
+        clauses: 0,
+        conditions: false,
+        actions: false,
+    }
+}
+
+// The sketch with one line more.
+pub fn see(q: Sketch, read: LineRead) -> SketchRead
+    requires { ⌜ q .clauses + 1 < 18446744073709551616 ⌝ }
+    ensures { λ r. ⌜ ((text : List ℕ) (d : Draft) → Sketched text d q → LineFits text read → SketchAs text (onRead (saidRead text read) (λ s. good (told s d))) r) ⌝ }
+{
+    let id = q.id;
+    match read {
+        LineRead::Named(s) => SketchRead::Good(Sketch {
+            id: Field::Taken(s),
+            ranked: q.ranked,
+            priority: q.priority,
+            acting: q.acting,
+            otherwise: q.otherwise,
+            clauses: q.clauses,
+            conditions: q.conditions,
+            actions: q.actions,
+        }),
+        LineRead::Ranked(n) => SketchRead::Good(Sketch {
+            id,
+            ranked: true,
+            priority: n,
+            acting: q.acting,
+            otherwise: q.otherwise,
+            clauses: q.clauses,
+            conditions: q.conditions,
+            actions: q.actions,
+        }),
+        LineRead::Condition(_) => SketchRead::Good(Sketch {
+            id,
+            ranked: q.ranked,
+            priority: q.priority,
+            acting: q.acting,
+            otherwise: q.otherwise,
+            clauses: q.clauses + 1,
+            conditions: true,
+            actions: q.actions,
+        }),
+        LineRead::Action(a) => SketchRead::Good(Sketch {
+            id,
+            ranked: q.ranked,
+            priority: q.priority,
+            acting: a.acting,
+            otherwise: a.otherwise,
+            clauses: q.clauses + 1,
+            conditions: q.conditions,
+            actions: true,
+        }),
+        LineRead::Refused(why) => SketchRead::Refused(why),
+    }
+}
+
+// The lines of the group whose first line stands at `first`, in a text read up to `at`.
+pub fn judge_lines(text: &[u8], first: usize, at: usize, words: &[u64], links: usize) -> SketchRead
+    requires { ⌜ ((m : Network) × Words (now text) m (now words) × (links ≡ length (m .links))) ⌝ }
+    ensures { λ r. ⌜ ((m : Network) → Words (now (text .entry)) m (now (words .entry)) → links ≡ length (m .links)
+        → SketchAs (now (text .entry)) (linesOf m noDraft (groupFields (now (text .entry)) at first)) r) ⌝ }
+{
+    let mut q = no_sketch();
+    let mut p = first;
+    loop {
+        let own = headers::next_own(text, at, p);
+        let OwnLine::Line(s) = own else {
+            return SketchRead::Good(q);
+        };
+        let read = rulelines::read_line(
+            letters::cut(text, 0, s.end),
+            s.at,
+            q.acting,
+            q.otherwise,
+            text,
+            words,
+            links,
+        );
+        let seen = see(q, read);
+        match seen {
+            SketchRead::Good(next) => {
+                q = next;
+                p = s.end;
+            }
+            SketchRead::Refused(why) => {
+                return SketchRead::Refused(why);
+            }
+        }
+    }
+}
+
+// ---- the group
+
+pub enum Judged {
+    Good(Span),
+    Refused(Reason),
+}
+
+// The group of that sketch: no condition, no action, no id, its id used, no room, in that order.
+pub fn judge_group(text: &[u8], q: Sketch, words: &[u64], s: Counts) -> Judged
+    requires { ⌜ ((m : Network) × Words (now text) m (now words) × (s .rules ≡ length (m .rules)) × (s .clauses ≤ 512)) ⌝ }
+    ensures { λ r. ⌜ ((m : Network) (d : Draft) → Words (now (text .entry)) m (now (words .entry)) → s .rules ≡ length (m .rules) → s .clauses ≡ length (m .clauses) → Sketched (now (text .entry)) d q
+        → JudgedAs (now (text .entry)) d m (judged d m) r) ⌝ }
+{
+    if q.conditions {
+        if q.actions {
+            let named = q.id;
+            let Field::Taken(id) = named else {
+                return Judged::Refused(Reason::NoId);
+            };
+            let found = tables::find_rule(text, words, s.rules, fields::letters_of(text, id));
+            let Found::Nowhere = found else {
+                return Judged::Refused(Reason::Used);
+            };
+            if s.rules < 64 {
+                if q.clauses <= 512 - s.clauses {
+                    return Judged::Good(id);
+                }
+            }
+            return Judged::Refused(Reason::Full);
+        }
+        return Judged::Refused(Reason::NoAction);
+    }
+    Judged::Refused(Reason::NoCondition)
+}
