@@ -5,43 +5,18 @@ ghost use Rattle.fields.specs.declared.LineKind.the-variants as kind;
 ghost use Rattle.lines.specs.Stretch.{secBy, ownBy};
 ghost use Rattle.scope.specs.Sections.{sectionOf, isRules};
 ghost use Rattle.scope.specs.Lines.{sortBy, sortOf};
+ghost use Rattle.headers.specs.Sections.{linkSection, seriesSection, otherSection};
 ghost use Rattle.headers.specs.Own.{sortIn, OwnFrom, NextOwn};
 use fields::Field;
 use fields::LineKind;
 use fields::Span;
 use scope::Section;
 
-// `w` is a header's line, trimmed.
-pub fn section_of(w: &[u8]) -> Section
-    ensures { λ r. ⌜ r ≡ sectionOf (now (w .entry)) ⌝ }
+// ---- the section that a header opens: `w` is the header's line, trimmed. A chain of four, as a check grows with the square of a chain's length
+
+fn other_section(w: &[u8]) -> Section
+    ensures { λ r. ⌜ r ≡ otherSection (now (w .entry)) ⌝ }
 {
-    if letters::equal(w, b"[JUNCTIONS]") {
-        return Section::Junctions;
-    }
-    if letters::equal(w, b"[RESERVOIRS]") {
-        return Section::Reservoirs;
-    }
-    if letters::equal(w, b"[TANKS]") {
-        return Section::Tanks;
-    }
-    if letters::equal(w, b"[PIPES]") {
-        return Section::Pipes;
-    }
-    if letters::equal(w, b"[PUMPS]") {
-        return Section::Pumps;
-    }
-    if letters::equal(w, b"[VALVES]") {
-        return Section::Valves;
-    }
-    if letters::equal(w, b"[CURVES]") {
-        return Section::Curves;
-    }
-    if letters::equal(w, b"[PATTERNS]") {
-        return Section::Patterns;
-    }
-    if letters::equal(w, b"[DEMANDS]") {
-        return Section::Demands;
-    }
     if letters::equal(w, b"[EMITTERS]") {
         return Section::Emitters;
     }
@@ -55,6 +30,51 @@ pub fn section_of(w: &[u8]) -> Section
         return Section::Rules;
     }
     Section::Passed
+}
+
+fn series_section(w: &[u8]) -> Section
+    ensures { λ r. ⌜ r ≡ seriesSection (now (w .entry)) ⌝ }
+{
+    if letters::equal(w, b"[CURVES]") {
+        return Section::Curves;
+    }
+    if letters::equal(w, b"[PATTERNS]") {
+        return Section::Patterns;
+    }
+    if letters::equal(w, b"[DEMANDS]") {
+        return Section::Demands;
+    }
+    other_section(w)
+}
+
+fn link_section(w: &[u8]) -> Section
+    ensures { λ r. ⌜ r ≡ linkSection (now (w .entry)) ⌝ }
+{
+    if letters::equal(w, b"[PIPES]") {
+        return Section::Pipes;
+    }
+    if letters::equal(w, b"[PUMPS]") {
+        return Section::Pumps;
+    }
+    if letters::equal(w, b"[VALVES]") {
+        return Section::Valves;
+    }
+    series_section(w)
+}
+
+pub fn section_of(w: &[u8]) -> Section
+    ensures { λ r. ⌜ r ≡ sectionOf (now (w .entry)) ⌝ }
+{
+    if letters::equal(w, b"[JUNCTIONS]") {
+        return Section::Junctions;
+    }
+    if letters::equal(w, b"[RESERVOIRS]") {
+        return Section::Reservoirs;
+    }
+    if letters::equal(w, b"[TANKS]") {
+        return Section::Tanks;
+    }
+    link_section(w)
 }
 
 // ---- what a line is
@@ -97,20 +117,8 @@ pub fn in_rules(s: Section) -> bool
     ensures { λ r. ⌜ r ≡ isRules s ⌝ }
 {
     match s {
-        Section::Junctions => false,
-        Section::Reservoirs => false,
-        Section::Tanks => false,
-        Section::Pipes => false,
-        Section::Pumps => false,
-        Section::Valves => false,
-        Section::Curves => false,
-        Section::Patterns => false,
-        Section::Demands => false,
-        Section::Emitters => false,
-        Section::Coordinates => false,
-        Section::Times => false,
         Section::Rules => true,
-        Section::Passed => false,
+        _ => false,
     }
 }
 
