@@ -1,5 +1,4 @@
 // Reads a line of EMITTERS or COORDINATES, which says more of a node: the fields in order, and what they say. Nothing is looked up or stored here.
-ghost use mathlib.Core.Path.{_≡_};
 ghost use Rattle.fields.specs.Fields.{fieldsAt};
 ghost use Rattle.placelines.specs.Lines.{emitterOf, EmitterAs, placeOf, PlaceAs};
 use fields::Field;
