@@ -6,13 +6,13 @@ use mathlib.Core.List.{List, [], _∷_}
 use mathlib.Core.Option.{Option, none, some}
 use Rattle.fields.specs.Fields.{Name, fieldsAt, nameIn, Fits}
 pub use Rattle.fields.specs.Fields.{optIn, MayFit}
+pub use Rattle.values.specs.Values.{valueRead}
 use Rattle.letters.specs.Words.{same}
 use Rattle.fields.specs.declared.Span.{Span}
 use Rattle.scope.specs.declared.Reason.{Reason}
 use Rattle.scope.specs.declared.Reason.the-variants.{Missing}
 use Rattle.scope.specs.declared.Reason.the-variants as reason
 use Rattle.scope.specs.declared.Target.{Target}
-use Rattle.scope.specs.declared.Comparison.{Comparison}
 use Rattle.scope.specs.declared.Operator.{Operator}
 use Rattle.scope.specs.declared.Value.{Value}
 use Rattle.scope.specs.declared.Condition as C
@@ -30,10 +30,6 @@ use Rattle.clauses.specs.declared.Named.the-variants.{Node, Tank, Link}
 use Rattle.clauses.specs.declared.Aim.{Aim}
 use Rattle.clauses.specs.declared.TargetRead.{TargetRead}
 use Rattle.clauses.specs.declared.TargetRead.the-variants as target
-use Rattle.clauses.specs.declared.ComparisonRead.{ComparisonRead}
-use Rattle.clauses.specs.declared.ComparisonRead.the-variants as comparison
-use Rattle.clauses.specs.declared.ValueRead.{ValueRead}
-use Rattle.clauses.specs.declared.ValueRead.the-variants as value
 use Rattle.clauses.specs.declared.ConditionRead.{ConditionRead}
 use Rattle.clauses.specs.declared.ConditionRead.the-variants as condition
 use Rattle.clauses.specs.declared.ActionHead.{ActionHead}
@@ -64,15 +60,6 @@ targetRead l (target.Refused why) = refused why
 abbrev pub TargetFits : List ℕ → TargetRead → Type 0
 TargetFits l (target.Read a) = MayFit l (a .name)
 TargetFits l (target.Refused why) = Unit
-
--- ---- comparisons and values
-abbrev pub comparisonRead : ComparisonRead → Read Comparison
-comparisonRead (comparison.Known c) = good c
-comparisonRead comparison.Unknown = bad reason.Unknown
-
-abbrev pub valueRead : ValueRead → Read Value
-valueRead (value.Read v) = good v
-valueRead (value.Refused why) = bad why
 
 -- ---- conditions
 abbrev pub conditionIn : List ℕ → C.Condition → Condition

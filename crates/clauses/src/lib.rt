@@ -1,22 +1,12 @@
 // Reads the conditions and the actions of a rule. A line is the caller's text up to the line's end, with the place where its next field is looked for: so every place
 // is a place of the text.
 ghost use mathlib.Core.Path.{_≡_};
-ghost use mathlib.Core.Bool.{_||_};
-ghost use mathlib.Core.List.{[]};
-ghost use Prim.Native.Nat.{ℕ};
-ghost use Rattle.decimals.specs.Numbers.{numberOf};
 ghost use Rattle.fields.specs.Fields.{fieldsAt};
-ghost use Rattle.letters.specs.Words.{same};
 ghost use Rattle.scope.specs.Records.{LinkKind};
-ghost use Rattle.scope.specs.Values.{asNumber, onRead, asTime};
-ghost use Rattle.clock.specs.Times.{timeOf};
-ghost use Rattle.scope.specs.Rules.{systemTarget, nodeTarget, tankTarget, linkTarget, isLinkWord, systemFrom, namedFrom, aimFrom, comparisonOf, isTime, secondsValue, numberValue, measured, valueOf, conditionOf, ofKind, isPipe, isPump, isValve, kindFits, statusValue, deedOf};
-ghost use Rattle.clauses.specs.Clauses.{attributeRead, attributeOf, targetRead, TargetFits, aimIn, comparisonRead, valueRead, conditionRead, ConditionFits, conditionOn, headFrom, headRead, HeadFits, kindRead, deedFrom, ruleWord, MayFit};
-use clock::Time;
-use decimals::Number;
+ghost use Rattle.scope.specs.Rules.{systemTarget, nodeTarget, tankTarget, linkTarget, isLinkWord, systemFrom, namedFrom, aimFrom, isTime, valueOf, conditionOf, ofKind, isPipe, isPump, isValve, kindFits};
+ghost use Rattle.clauses.specs.Clauses.{attributeRead, attributeOf, targetRead, TargetFits, aimIn, valueRead, conditionRead, ConditionFits, conditionOn, headFrom, headRead, HeadFits, kindRead, deedFrom, ruleWord, MayFit};
 use fields::Field;
 use fields::Span;
-use scope::Comparison;
 use scope::Condition;
 use scope::LinkAttribute;
 use scope::LinkStatus;
@@ -27,16 +17,8 @@ use scope::SystemAttribute;
 use scope::TankAttribute;
 use scope::Target;
 use scope::Value;
-
-// Whether the word is one of the two.
-fn either<'a>(w: &'a [u8], a: &'a [u8], b: &'a [u8]) -> bool
-    ensures { λ r. ⌜ r ≡ (same (now (w .entry)) (now (a .entry)) || same (now (w .entry)) (now (b .entry))) ⌝ }
-{
-    if letters::equal(w, a) {
-        return true;
-    }
-    letters::equal(w, b)
-}
+use values::ComparisonRead;
+use values::ValueRead;
 
 // ---- the target of a condition
 
@@ -218,43 +200,7 @@ pub fn read_target(l: &[u8], at: usize) -> TargetRead
     TargetRead::Refused(Reason::Unknown)
 }
 
-// ---- the comparison
-
-pub enum ComparisonRead {
-    Known(Comparison),
-    Unknown,
-}
-
-pub fn read_comparison(w: &[u8]) -> ComparisonRead
-    ensures { λ r. ⌜ comparisonRead r ≡ comparisonOf (now (w .entry)) ⌝ }
-{
-    if either(w, b"IS", b"=") {
-        return ComparisonRead::Known(Comparison::Equal);
-    }
-    if either(w, b"NOT", b"<>") {
-        return ComparisonRead::Known(Comparison::Differs);
-    }
-    if either(w, b"ABOVE", b">") {
-        return ComparisonRead::Known(Comparison::Above);
-    }
-    if either(w, b"BELOW", b"<") {
-        return ComparisonRead::Known(Comparison::Below);
-    }
-    if letters::equal(w, b">=") {
-        return ComparisonRead::Known(Comparison::AtLeast);
-    }
-    if letters::equal(w, b"<=") {
-        return ComparisonRead::Known(Comparison::AtMost);
-    }
-    ComparisonRead::Unknown
-}
-
 // ---- the value
-
-pub enum ValueRead {
-    Read(Value),
-    Refused(Reason),
-}
 
 fn is_time(t: Target) -> bool
     ensures { λ r. ⌜ r ≡ isTime t ⌝ }
@@ -268,39 +214,6 @@ fn is_time(t: Target) -> bool
         Target::Node(_) => false,
         Target::Tank(_) => false,
         Target::Link(_) => false,
-    }
-}
-
-// Up to 2^53 every whole number is a double.
-fn seconds_value(n: u64) -> ValueRead
-    ensures { λ r. ⌜ valueRead r ≡ secondsValue n ⌝ }
-{
-    if n <= 9007199254740992 {
-        return ValueRead::Read(Value::Number(n as f64));
-    }
-    ValueRead::Refused(Reason::Beyond)
-}
-
-fn time_value(time: &[u8], unit: &[u8]) -> ValueRead
-    ensures { λ r. ⌜ valueRead r ≡ onRead (asTime (timeOf (now (time .entry)) (now (unit .entry)))) secondsValue ⌝ }
-{
-    let t = clock::read_time(time, unit);
-    match t {
-        Time::Seconds(n) => seconds_value(n),
-        Time::Malformed => ValueRead::Refused(Reason::Malformed),
-        Time::Beyond => ValueRead::Refused(Reason::Beyond),
-        Time::UnknownUnit => ValueRead::Refused(Reason::Unknown),
-    }
-}
-
-fn number_value(w: &[u8]) -> ValueRead
-    ensures { λ r. ⌜ valueRead r ≡ numberValue (asNumber (numberOf (now (w .entry))) []) ⌝ }
-{
-    let n = decimals::read_number(w);
-    match n {
-        Number::Value(x) => ValueRead::Read(Value::Number(x)),
-        Number::Malformed => ValueRead::Refused(Reason::Malformed),
-        Number::Beyond => ValueRead::Refused(Reason::Beyond),
     }
 }
 
@@ -323,9 +236,9 @@ pub fn read_value(target: Target, l: &[u8], at: usize) -> ValueRead
         return ValueRead::Read(Value::Status(LinkStatus::Active));
     }
     if is_time(target) {
-        return time_value(w, fields::field_or(l, s.end, b""));
+        return values::time_value(w, fields::field_or(l, s.end, b""));
     }
-    number_value(w)
+    values::number_value(w)
 }
 
 // ---- a condition
@@ -344,7 +257,7 @@ fn condition_on(l: &[u8], aim: Aim, operator: Operator) -> ConditionRead
     let Field::Taken(s) = f else {
         return ConditionRead::Refused(Reason::Missing);
     };
-    let word = read_comparison(fields::letters_of(l, s));
+    let word = values::read_comparison(fields::letters_of(l, s));
     let ComparisonRead::Known(comparison) = word else {
         return ConditionRead::Refused(Reason::Unknown);
     };
@@ -437,30 +350,6 @@ pub fn kind_fits(w: &[u8], pipe: bool, pump: bool, valve: bool) -> KindRead
     KindRead::Refused(Reason::Unknown)
 }
 
-fn status_value(w: &[u8]) -> ValueRead
-    ensures { λ r. ⌜ valueRead r ≡ statusValue (now (w .entry)) ⌝ }
-{
-    if letters::equal(w, b"OPEN") {
-        return ValueRead::Read(Value::Status(LinkStatus::Open));
-    }
-    if letters::equal(w, b"CLOSED") {
-        return ValueRead::Read(Value::Status(LinkStatus::Closed));
-    }
-    ValueRead::Refused(Reason::Unknown)
-}
-
-fn deed<'a>(what: &'a [u8], value: &'a [u8]) -> ValueRead
-    ensures { λ r. ⌜ ((at : ℕ) → valueRead r ≡ deedOf (now (what .entry)) (record { at = at; letters = now (value .entry) })) ⌝ }
-{
-    if letters::equal(what, b"STATUS") {
-        return status_value(value);
-    }
-    if letters::equal(what, b"SETTING") {
-        return number_value(value);
-    }
-    ValueRead::Refused(Reason::Unknown)
-}
-
 // What stands after the link's id: STATUS or SETTING, IS, and the value.
 pub fn read_deed(l: &[u8], at: usize) -> ValueRead
     ensures { λ r. ⌜ valueRead r ≡ deedFrom (fieldsAt (now (l .entry)) at) ⌝ }
@@ -478,7 +367,7 @@ pub fn read_deed(l: &[u8], at: usize) -> ValueRead
         let Field::Taken(v) = h else {
             return ValueRead::Refused(Reason::Missing);
         };
-        return deed(fields::letters_of(l, what), fields::letters_of(l, v));
+        return values::deed(fields::letters_of(l, what), fields::letters_of(l, v));
     }
     ValueRead::Refused(Reason::Unknown)
 }

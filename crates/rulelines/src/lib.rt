@@ -16,7 +16,6 @@ use clauses::ConditionRead;
 use clauses::HeadRead;
 use clauses::KindRead;
 use clauses::RuleWord;
-use clauses::ValueRead;
 use counts::Count;
 use fields::Field;
 use fields::Span;
@@ -25,6 +24,7 @@ use scope::Condition;
 use scope::Found;
 use scope::Operator;
 use scope::Reason;
+use values::ValueRead;
 
 // ---- actions
 

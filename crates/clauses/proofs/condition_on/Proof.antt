@@ -3,7 +3,8 @@ use mathlib.Core.Path.{_≡_, refl, sym, ap, _∙_, subst}
 use denote.Ref.{now}
 use mathlib.Core.List.{List, [], _∷_}
 use Rattle.fields.specs.Fields.{Fits, fieldsAt, nameIn, part}
-use Rattle.clauses.specs.Clauses.{comparisonRead, valueRead, conditionOn}
+use Rattle.values.specs.Values.{comparisonRead, valueRead}
+use Rattle.clauses.specs.Clauses.{conditionOn}
 use borrow.Author.Needs.{needs}
 use Rattle.clauses.proofs.condition_on.Statement.{statement}
 use Rattle.clauses.proofs.condition_on.Tie as tie

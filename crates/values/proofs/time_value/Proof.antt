@@ -1,8 +1,8 @@
--- `clauses::time_value` meets its contract. Assumes nothing.
+-- `values::time_value` meets its contract. Assumes nothing.
 use mathlib.Core.Path.{_≡_, refl, sym, ap, _∙_, subst}
 use borrow.Author.Needs.{needs}
-use Rattle.clauses.proofs.time_value.Statement.{statement}
-use Rattle.clauses.proofs.time_value.Tie as tie
+use Rattle.values.proofs.time_value.Statement.{statement}
+use Rattle.values.proofs.time_value.Tie as tie
 
 read-time-requires : tie.Need-read-time-requires
 read-time-requires c κs = search needs

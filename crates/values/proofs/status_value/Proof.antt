@@ -1,8 +1,8 @@
--- `clauses::status_value` meets its contract. Assumes nothing.
+-- `values::status_value` meets its contract. Assumes nothing.
 use mathlib.Core.Path.{_≡_, refl, sym, ap, _∙_, subst}
 use borrow.Author.Needs.{needs}
-use Rattle.clauses.proofs.status_value.Statement.{statement}
-use Rattle.clauses.proofs.status_value.Tie as tie
+use Rattle.values.proofs.status_value.Statement.{statement}
+use Rattle.values.proofs.status_value.Tie as tie
 
 slice-aggregate-equal : tie.Need-slice-aggregate-equal
 slice-aggregate-equal c = search needs

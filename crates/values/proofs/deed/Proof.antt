@@ -1,9 +1,9 @@
--- `clauses::deed` meets its contract. Assumes nothing.
+-- `values::deed` meets its contract. Assumes nothing.
 use mathlib.Core.Path.{_≡_, refl, sym, ap, _∙_, subst}
 use Rattle.scope.specs.Rules.{deedOf}
 use borrow.Author.Needs.{needs}
-use Rattle.clauses.proofs.deed.Statement.{statement}
-use Rattle.clauses.proofs.deed.Tie as tie
+use Rattle.values.proofs.deed.Statement.{statement}
+use Rattle.values.proofs.deed.Tie as tie
 
 slice-aggregate-equal : tie.Need-slice-aggregate-equal
 slice-aggregate-equal c = search needs

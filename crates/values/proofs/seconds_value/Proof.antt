@@ -1,10 +1,10 @@
--- `clauses::seconds_value` meets its contract. Assumes nothing.
+-- `values::seconds_value` meets its contract. Assumes nothing.
 use mathlib.Core.Path.{_≡_, refl, sym, ap, _∙_, subst}
 use lib.Ieee.{inFloat}
 use lib.Dec.{le→leb}
 use borrow.Author.Tests.{lt-leb, le-leb}
-use Rattle.clauses.proofs.seconds_value.Statement.{statement}
-use Rattle.clauses.proofs.seconds_value.Tie as tie
+use Rattle.values.proofs.seconds_value.Statement.{statement}
+use Rattle.values.proofs.seconds_value.Tie as tie
 
 int-to-float-t3 : tie.Need-int-to-float-t3
 unfolding inFloat

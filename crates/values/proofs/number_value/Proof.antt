@@ -1,8 +1,8 @@
--- `clauses::number_value` meets its contract. Assumes nothing.
+-- `values::number_value` meets its contract. Assumes nothing.
 use mathlib.Core.Path.{_≡_, refl, sym, ap, _∙_, subst}
 use borrow.Author.Needs.{needs}
-use Rattle.clauses.proofs.number_value.Statement.{statement}
-use Rattle.clauses.proofs.number_value.Tie as tie
+use Rattle.values.proofs.number_value.Statement.{statement}
+use Rattle.values.proofs.number_value.Tie as tie
 
 read-number-requires : tie.Need-read-number-requires
 read-number-requires c κs = search needs

@@ -1,8 +1,8 @@
--- `clauses::either` meets its contract. Assumes nothing.
+-- `values::either` meets its contract. Assumes nothing.
 use mathlib.Core.Path.{_≡_, refl, sym, ap, _∙_, subst}
 use borrow.Author.Needs.{needs}
-use Rattle.clauses.proofs.either.Statement.{statement}
-use Rattle.clauses.proofs.either.Tie as tie
+use Rattle.values.proofs.either.Statement.{statement}
+use Rattle.values.proofs.either.Tie as tie
 
 equal-requires : tie.Need-equal-requires
 equal-requires c κs = search needs
