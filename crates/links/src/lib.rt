@@ -54,7 +54,7 @@ fn kind_words(text: &[u8], kind: LinkKind) -> [u64; 4]
     match kind {
         LinkKind::PipeKind(p) => {
             let status = p.status;
-            [1, tables::pipe_status_number(status), 0, 0]
+            [1, numbering::pipe_status_number(status), 0, 0]
         }
         LinkKind::PumpKind(p) => {
             let head = p.head;
@@ -65,7 +65,7 @@ fn kind_words(text: &[u8], kind: LinkKind) -> [u64; 4]
             let kind = v.kind;
             let curve = v.curve;
             let c = tables::name_words(text, curve);
-            [3, tables::valve_type_number(kind), c[0], c[1]]
+            [3, numbering::valve_type_number(kind), c[0], c[1]]
         }
     }
 }

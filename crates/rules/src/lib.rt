@@ -48,8 +48,8 @@ fn put_clause(
         × (now (numbers .exit) ≡ splice (now (numbers .entry)) (clauseNumbersAt + n) (valueNumber value ∷ [])) ⌝ }
 {
     let k = tables::name_words(text, name);
-    let v = tables::value_word(value);
-    let x = tables::value_number(value);
+    let v = numbering::value_word(value);
+    let x = numbering::value_number(value);
     tables::paste_words(
         words,
         tables::CLAUSES + n * tables::CLAUSE_WORDS,
@@ -67,9 +67,9 @@ fn put_condition(text: &[u8], c: Condition, n: usize, words: &mut [u64], numbers
     let comparison = c.comparison;
     let value = c.value;
     let name = c.name;
-    let o = tables::operator_number(operator);
-    let t = tables::target_number(target);
-    let k = tables::comparison_number(comparison);
+    let o = numbering::operator_number(operator);
+    let t = numbering::target_number(target);
+    let k = numbering::comparison_number(comparison);
     put_clause(text, n, 1, o, t, k, value, name, words, numbers);
 }
 

@@ -12,8 +12,8 @@ use Rattle.links.proofs.kind_words.Tie as tie
 use Rattle.links.proofs.kind_words.Reads as reads
 use Rattle.links.proofs.kind_words.Lts as lts
 use Rattle.tables.proofs.name_words.Reads as name-words-reads
-use Rattle.tables.proofs.pipe_status_number.Reads as pipe-status-number-reads
-use Rattle.tables.proofs.valve_type_number.Reads as valve-type-number-reads
+use Rattle.numbering.proofs.pipe_status_number.Reads as pipe-status-number-reads
+use Rattle.numbering.proofs.valve_type_number.Reads as valve-type-number-reads
 
 enum-known-kind : tie.Need-enum-known-kind
 enum-known-kind c = search needs
