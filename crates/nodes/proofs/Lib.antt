@@ -1,4 +1,3 @@
 -- What the proofs of several functions use.
 pub mod StoreLaws
-pub mod ChangeLaws
 pub mod LineLaws

@@ -1,18 +1,17 @@
-// Stores what a line of JUNCTIONS, RESERVOIRS, TANKS, EMITTERS or COORDINATES says, as nodelines, tanklines and placelines read it: the record is looked up and stored.
+// Stores what a line of JUNCTIONS, RESERVOIRS or TANKS says, as nodelines and tanklines read it: the name is looked up and the record stored.
 ghost use mathlib.Core.Path.{_≡_};
 ghost use Prim.Native.Nat.{_+_, _*_, _%_, _≤_, _<_};
 ghost use lib.ListN.{length, take};
 ghost use Rattle.fields.specs.Fields.{fieldsAt, nameIn, part, Fits, optIn, MayFit};
 ghost use Rattle.scope.specs.Records.{Network, Node, NodeKind, lookup, nodeIds};
 ghost use Rattle.scope.specs.Values.{Read, onRead};
-ghost use Rattle.scope.specs.Nodes.{junctionNode, tankNode, junctionDemand, addJunction, addNode, setEmitter, setPlace, junctionStep, reservoirStep, tankStep, emitterStep, coordinatesStep};
+ghost use Rattle.scope.specs.Nodes.{junctionNode, tankNode, junctionDemand, addJunction, addNode, junctionStep, reservoirStep, tankStep};
 ghost use Rattle.scope.specs.Tables.{keyOf, marked, slotOf, nodeNumbers, demandNumbers, recordWords, roomNumbers};
 ghost use Rattle.tables.specs.Table.{splice};
 ghost use Rattle.tables.specs.Layout.{nodesAt, nodeSize, nodeSlotsAt, nodeNumbersAt, nodeNumbersSize, demandsAt, demandSize, demandSlotsAt, demandNumbersAt};
 ghost use Rattle.tables.specs.Adding.{nodeAdded, demandAdded};
 ghost use Rattle.tables.specs.Holding.{Words, Holds, Sound, After};
 ghost use Rattle.nodelines.specs.Lines.{junctionIn, reservoirIn, tankIn, NodeAs};
-ghost use Rattle.placelines.specs.Lines.{placeIn};
 ghost use Rattle.nodes.specs.Storing.{newNode, newWords, ownWords, KindAs};
 use fields::Field;
 use fields::Span;
@@ -20,10 +19,6 @@ use nodelines::JunctionLine;
 use nodelines::JunctionRead;
 use nodelines::NodeRead;
 use nodelines::ReservoirLine;
-use placelines::EmitterLine;
-use placelines::EmitterRead;
-use placelines::PlaceLine;
-use placelines::PlaceRead;
 use scope::Counts;
 use scope::Found;
 use scope::Reason;
@@ -37,7 +32,7 @@ const NODE_ROOM: usize = 256;
 const DEMAND_ROOM: usize = 512;
 
 // Where the node of that name stands.
-fn node_named(text: &[u8], words: &[u64], nodes: usize, name: Span) -> Found
+pub fn node_named(text: &[u8], words: &[u64], nodes: usize, name: Span) -> Found
     requires { ⌜ ((m : Network) × Words (now text) m (now words) × (nodes ≡ length (m .nodes))) ⌝ }
     ensures { λ r. ⌜ ((m : Network) → Words (now (text .entry)) m (now (words .entry)) → nodes ≡ length (m .nodes) → r ≡ lookup (nodeIds m) (part (name .at) (name .end) (now (text .entry)))) ⌝ }
 {
@@ -245,59 +240,7 @@ fn store_read(
     }
 }
 
-// The coefficient takes the emitter's place in the junction's numbers.
-fn store_emitter(
-    text: &[u8],
-    e: EmitterLine,
-    s: Counts,
-    words: &mut [u64],
-    numbers: &mut [f64],
-) -> Kept
-    requires { ⌜ Sound (now text) s (now words) (now numbers) ⌝ }
-    ensures { λ r. ⌜ ((m : Network) → Holds (now (text .entry)) m s (now (words .entry)) (now (numbers .entry))
-        → After (now (text .entry)) (setEmitter (nameIn (now (text .entry)) (e .id)) (e .coefficient) m) r (now (words .entry)) (now (numbers .entry)) (now (words .exit)) (now (numbers .exit))) ⌝ }
-{
-    let found = node_named(text, words, s.nodes, e.id);
-    let Found::At(i) = found else {
-        return Kept::Refused(Reason::NotFound);
-    };
-    if tables::is_junction(words, i) {
-        tables::paste_numbers(
-            numbers,
-            tables::NODE_NUMBERS + i * tables::NUMBERS_OF_NODE + 1,
-            &[e.coefficient],
-        );
-        return Kept::Stored(s);
-    }
-    Kept::Refused(Reason::WrongKind)
-}
-
-// The place is the last word and the last two numbers of a node.
-fn store_coordinates(
-    text: &[u8],
-    p: PlaceLine,
-    s: Counts,
-    words: &mut [u64],
-    numbers: &mut [f64],
-) -> Kept
-    requires { ⌜ Sound (now text) s (now words) (now numbers) ⌝ }
-    ensures { λ r. ⌜ ((m : Network) → Holds (now (text .entry)) m s (now (words .entry)) (now (numbers .entry))
-        → After (now (text .entry)) (setPlace (nameIn (now (text .entry)) (p .id)) (placeIn (now (text .entry)) p .at) m) r (now (words .entry)) (now (numbers .entry)) (now (words .exit)) (now (numbers .exit))) ⌝ }
-{
-    let found = node_named(text, words, s.nodes, p.id);
-    let Found::At(i) = found else {
-        return Kept::Refused(Reason::NotFound);
-    };
-    tables::paste_words(words, tables::NODES + i * tables::NODE_WORDS + 7, &[1]);
-    tables::paste_numbers(
-        numbers,
-        tables::NODE_NUMBERS + i * tables::NUMBERS_OF_NODE + 6,
-        &[p.x, p.y],
-    );
-    Kept::Stored(s)
-}
-
-// ---- the lines of the five sections
+// ---- the lines of the three sections
 
 // The line of JUNCTIONS from `at` to `end`.
 pub fn junction_line(
@@ -351,44 +294,4 @@ pub fn tank_line(
 {
     let read = tanklines::read_tank(&text[..end], at);
     store_read(text, read, s, words, numbers)
-}
-
-// The line of EMITTERS from `at` to `end`.
-pub fn emitter_line(
-    text: &[u8],
-    at: usize,
-    end: usize,
-    s: Counts,
-    words: &mut [u64],
-    numbers: &mut [f64],
-) -> Kept
-    requires { ⌜ Sound (now text) s (now words) (now numbers) × (end ≤ length (now text)) ⌝ }
-    ensures { λ r. ⌜ ((m : Network) → Holds (now (text .entry)) m s (now (words .entry)) (now (numbers .entry))
-        → After (now (text .entry)) (emitterStep (fieldsAt (take end (now (text .entry))) at) m) r (now (words .entry)) (now (numbers .entry)) (now (words .exit)) (now (numbers .exit))) ⌝ }
-{
-    let read = placelines::read_emitter(&text[..end], at);
-    match read {
-        EmitterRead::Emitter(e) => store_emitter(text, e, s, words, numbers),
-        EmitterRead::NoEmitter(why) => Kept::Refused(why),
-    }
-}
-
-// The line of COORDINATES from `at` to `end`.
-pub fn coordinates_line(
-    text: &[u8],
-    at: usize,
-    end: usize,
-    s: Counts,
-    words: &mut [u64],
-    numbers: &mut [f64],
-) -> Kept
-    requires { ⌜ Sound (now text) s (now words) (now numbers) × (end ≤ length (now text)) ⌝ }
-    ensures { λ r. ⌜ ((m : Network) → Holds (now (text .entry)) m s (now (words .entry)) (now (numbers .entry))
-        → After (now (text .entry)) (coordinatesStep (fieldsAt (take end (now (text .entry))) at) m) r (now (words .entry)) (now (numbers .entry)) (now (words .exit)) (now (numbers .exit))) ⌝ }
-{
-    let read = placelines::read_coordinates(&text[..end], at);
-    match read {
-        PlaceRead::Place(p) => store_coordinates(text, p, s, words, numbers),
-        PlaceRead::NoPlace(why) => Kept::Refused(why),
-    }
 }

@@ -9,8 +9,8 @@ use Rattle.steps.proofs.store_line.Lts as lts
 use Rattle.links.proofs.pipe_line.Reads as pipe-line-reads
 use Rattle.links.proofs.pump_line.Reads as pump-line-reads
 use Rattle.links.proofs.valve_line.Reads as valve-line-reads
-use Rattle.nodes.proofs.coordinates_line.Reads as coordinates-line-reads
-use Rattle.nodes.proofs.emitter_line.Reads as emitter-line-reads
+use Rattle.places.proofs.coordinates_line.Reads as coordinates-line-reads
+use Rattle.places.proofs.emitter_line.Reads as emitter-line-reads
 use Rattle.nodes.proofs.junction_line.Reads as junction-line-reads
 use Rattle.nodes.proofs.reservoir_line.Reads as reservoir-line-reads
 use Rattle.nodes.proofs.tank_line.Reads as tank-line-reads

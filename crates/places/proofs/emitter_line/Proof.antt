@@ -4,14 +4,14 @@ use lib.ListN.{take}
 use lib.Seq.{length-take-le}
 use Rattle.fields.specs.Fields.{fieldsAt}
 use Rattle.placelines.specs.Lines.{emitterOf}
-use Rattle.nodes.proofs.LineLaws.{emitter-told, emitter-good, emitter-bad}
+use Rattle.places.proofs.LineLaws.{emitter-told, emitter-good, emitter-bad}
 use borrow.Author.Needs.{needs}
-use Rattle.nodes.proofs.emitter_line.Statement.{statement}
-use Rattle.nodes.proofs.emitter_line.Tie as tie
-use Rattle.nodes.proofs.emitter_line.Reads as reads
-use Rattle.nodes.proofs.emitter_line.Lts as lts
+use Rattle.places.proofs.emitter_line.Statement.{statement}
+use Rattle.places.proofs.emitter_line.Tie as tie
+use Rattle.places.proofs.emitter_line.Reads as reads
+use Rattle.places.proofs.emitter_line.Lts as lts
 use Rattle.placelines.proofs.read_emitter.Reads as read-emitter-reads
-use Rattle.nodes.proofs.store_emitter.Reads as store-emitter-reads
+use Rattle.places.proofs.store_emitter.Reads as store-emitter-reads
 
 slice-aggregate-read-emitter : tie.Need-slice-aggregate-read-emitter
 slice-aggregate-read-emitter c = sym (length-take-le (c .before .before .before .before .args .end) (now (c .before .before .before .before .args .text)) (c .before .before .before .before .pre .1))

@@ -4,14 +4,14 @@ use lib.ListN.{take}
 use lib.Seq.{length-take-le}
 use Rattle.fields.specs.Fields.{fieldsAt}
 use Rattle.placelines.specs.Lines.{placeOf}
-use Rattle.nodes.proofs.LineLaws.{place-told, place-good, place-bad}
+use Rattle.places.proofs.LineLaws.{place-told, place-good, place-bad}
 use borrow.Author.Needs.{needs}
-use Rattle.nodes.proofs.coordinates_line.Statement.{statement}
-use Rattle.nodes.proofs.coordinates_line.Tie as tie
-use Rattle.nodes.proofs.coordinates_line.Reads as reads
-use Rattle.nodes.proofs.coordinates_line.Lts as lts
+use Rattle.places.proofs.coordinates_line.Statement.{statement}
+use Rattle.places.proofs.coordinates_line.Tie as tie
+use Rattle.places.proofs.coordinates_line.Reads as reads
+use Rattle.places.proofs.coordinates_line.Lts as lts
 use Rattle.placelines.proofs.read_coordinates.Reads as read-coordinates-reads
-use Rattle.nodes.proofs.store_coordinates.Reads as store-coordinates-reads
+use Rattle.places.proofs.store_coordinates.Reads as store-coordinates-reads
 
 slice-aggregate-read-coordinates : tie.Need-slice-aggregate-read-coordinates
 slice-aggregate-read-coordinates c = sym (length-take-le (c .before .before .before .before .args .end) (now (c .before .before .before .before .args .text)) (c .before .before .before .before .pre .1))

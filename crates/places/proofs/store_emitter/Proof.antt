@@ -3,13 +3,13 @@ use mathlib.Core.Path.{sym, _∙_}
 use native.Mathlib.Omega.{arith}
 use Rattle.tables.proofs.HoldLaws.{count-nodes}
 use Rattle.tables.proofs.AfterLaws.{sound-words, sound-numbers}
-use Rattle.nodes.proofs.ChangeLaws.{no-emitter, node-below, node-room, no-junction, emitter-set}
+use Rattle.places.proofs.ChangeLaws.{no-emitter, node-below, node-room, no-junction, emitter-set}
 use borrow.Author.Needs.{needs}
-use Rattle.nodes.proofs.store_emitter.Statement.{statement}
-use Rattle.nodes.proofs.store_emitter.Tie as tie
-use Rattle.nodes.proofs.store_emitter.Reads as reads
-use Rattle.nodes.proofs.store_emitter.Lts as lts
+use Rattle.places.proofs.store_emitter.Statement.{statement}
+use Rattle.places.proofs.store_emitter.Tie as tie
+use Rattle.places.proofs.store_emitter.Reads as reads
+use Rattle.places.proofs.store_emitter.Lts as lts
 use Rattle.nodes.proofs.node_named.Reads as node-named-reads
 use Rattle.tables.proofs.is_junction.Reads as is-junction-reads
 use Rattle.tables.proofs.paste_numbers.Reads as paste-numbers-reads
 

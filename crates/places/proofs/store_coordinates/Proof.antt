@@ -2,13 +2,13 @@ use mathlib.Core.Path.{sym, _∙_}
 use native.Mathlib.Omega.{arith}
 use Rattle.tables.proofs.HoldLaws.{count-nodes}
 use Rattle.tables.proofs.AfterLaws.{sound-words, sound-numbers}
-use Rattle.nodes.proofs.ChangeLaws.{no-place, node-room, place-set}
+use Rattle.places.proofs.ChangeLaws.{no-place, node-room, place-set}
 use borrow.Author.Needs.{needs}
-use Rattle.nodes.proofs.store_coordinates.Statement.{statement}
-use Rattle.nodes.proofs.store_coordinates.Tie as tie
-use Rattle.nodes.proofs.store_coordinates.Reads as reads
-use Rattle.nodes.proofs.store_coordinates.Lts as lts
+use Rattle.places.proofs.store_coordinates.Statement.{statement}
+use Rattle.places.proofs.store_coordinates.Tie as tie
+use Rattle.places.proofs.store_coordinates.Reads as reads
+use Rattle.places.proofs.store_coordinates.Lts as lts
 use Rattle.nodes.proofs.node_named.Reads as node-named-reads
 use Rattle.tables.proofs.paste_numbers.Reads as paste-numbers-reads
 use Rattle.tables.proofs.paste_words.Reads as paste-words-reads
 

@@ -1,0 +1,112 @@
+// Stores what a line of EMITTERS or COORDINATES says, as placelines reads it: the node is looked up and changed in its place.
+ghost use Prim.Native.Nat.{_≤_};
+ghost use lib.ListN.{length, take};
+ghost use Rattle.fields.specs.Fields.{fieldsAt, nameIn};
+ghost use Rattle.scope.specs.Records.{Network};
+ghost use Rattle.scope.specs.Nodes.{setEmitter, setPlace, emitterStep, coordinatesStep};
+ghost use Rattle.tables.specs.Holding.{Holds, Sound, After};
+ghost use Rattle.placelines.specs.Lines.{placeIn};
+use placelines::EmitterLine;
+use placelines::EmitterRead;
+use placelines::PlaceLine;
+use placelines::PlaceRead;
+use scope::Counts;
+use scope::Found;
+use scope::Reason;
+use tables::Kept;
+
+// ---- storing them
+
+// The coefficient takes the emitter's place in the junction's numbers.
+fn store_emitter(
+    text: &[u8],
+    e: EmitterLine,
+    s: Counts,
+    words: &mut [u64],
+    numbers: &mut [f64],
+) -> Kept
+    requires { ⌜ Sound (now text) s (now words) (now numbers) ⌝ }
+    ensures { λ r. ⌜ ((m : Network) → Holds (now (text .entry)) m s (now (words .entry)) (now (numbers .entry))
+        → After (now (text .entry)) (setEmitter (nameIn (now (text .entry)) (e .id)) (e .coefficient) m) r (now (words .entry)) (now (numbers .entry)) (now (words .exit)) (now (numbers .exit))) ⌝ }
+{
+    let found = nodes::node_named(text, words, s.nodes, e.id);
+    let Found::At(i) = found else {
+        return Kept::Refused(Reason::NotFound);
+    };
+    if tables::is_junction(words, i) {
+        tables::paste_numbers(
+            numbers,
+            tables::NODE_NUMBERS + i * tables::NUMBERS_OF_NODE + 1,
+            &[e.coefficient],
+        );
+        return Kept::Stored(s);
+    }
+    Kept::Refused(Reason::WrongKind)
+}
+
+// The place is the last word and the last two numbers of a node.
+fn store_coordinates(
+    text: &[u8],
+    p: PlaceLine,
+    s: Counts,
+    words: &mut [u64],
+    numbers: &mut [f64],
+) -> Kept
+    requires { ⌜ Sound (now text) s (now words) (now numbers) ⌝ }
+    ensures { λ r. ⌜ ((m : Network) → Holds (now (text .entry)) m s (now (words .entry)) (now (numbers .entry))
+        → After (now (text .entry)) (setPlace (nameIn (now (text .entry)) (p .id)) (placeIn (now (text .entry)) p .at) m) r (now (words .entry)) (now (numbers .entry)) (now (words .exit)) (now (numbers .exit))) ⌝ }
+{
+    let found = nodes::node_named(text, words, s.nodes, p.id);
+    let Found::At(i) = found else {
+        return Kept::Refused(Reason::NotFound);
+    };
+    tables::paste_words(words, tables::NODES + i * tables::NODE_WORDS + 7, &[1]);
+    tables::paste_numbers(
+        numbers,
+        tables::NODE_NUMBERS + i * tables::NUMBERS_OF_NODE + 6,
+        &[p.x, p.y],
+    );
+    Kept::Stored(s)
+}
+
+// ---- the lines of the two sections
+
+// The line of EMITTERS from `at` to `end`.
+pub fn emitter_line(
+    text: &[u8],
+    at: usize,
+    end: usize,
+    s: Counts,
+    words: &mut [u64],
+    numbers: &mut [f64],
+) -> Kept
+    requires { ⌜ Sound (now text) s (now words) (now numbers) × (end ≤ length (now text)) ⌝ }
+    ensures { λ r. ⌜ ((m : Network) → Holds (now (text .entry)) m s (now (words .entry)) (now (numbers .entry))
+        → After (now (text .entry)) (emitterStep (fieldsAt (take end (now (text .entry))) at) m) r (now (words .entry)) (now (numbers .entry)) (now (words .exit)) (now (numbers .exit))) ⌝ }
+{
+    let read = placelines::read_emitter(&text[..end], at);
+    match read {
+        EmitterRead::Emitter(e) => store_emitter(text, e, s, words, numbers),
+        EmitterRead::NoEmitter(why) => Kept::Refused(why),
+    }
+}
+
+// The line of COORDINATES from `at` to `end`.
+pub fn coordinates_line(
+    text: &[u8],
+    at: usize,
+    end: usize,
+    s: Counts,
+    words: &mut [u64],
+    numbers: &mut [f64],
+) -> Kept
+    requires { ⌜ Sound (now text) s (now words) (now numbers) × (end ≤ length (now text)) ⌝ }
+    ensures { λ r. ⌜ ((m : Network) → Holds (now (text .entry)) m s (now (words .entry)) (now (numbers .entry))
+        → After (now (text .entry)) (coordinatesStep (fieldsAt (take end (now (text .entry))) at) m) r (now (words .entry)) (now (numbers .entry)) (now (words .exit)) (now (numbers .exit))) ⌝ }
+{
+    let read = placelines::read_coordinates(&text[..end], at);
+    match read {
+        PlaceRead::Place(p) => store_coordinates(text, p, s, words, numbers),
+        PlaceRead::NoPlace(why) => Kept::Refused(why),
+    }
+}
