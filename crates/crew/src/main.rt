@@ -1,7 +1,7 @@
 // The crew sheet: how often the rules close, open, activate and set links, by rule and by link, under THEN and under ELSE. What is refused is said first.
 ghost use Prim.Native.Nat.{_≤_};
+use actions::Moves;
 use input::Input;
-use moves::Moves;
 use printing::decimal;
 use printing::newline;
 use printing::one_if;

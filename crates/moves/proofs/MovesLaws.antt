@@ -19,11 +19,11 @@ use Rattle.stored.specs.Back.{clauseBack, ruleBack, noClause}
 use Rattle.stored.specs.declared.Rule as ruleOut
 use Rattle.stored.specs.declared.Clause as clauseOut
 use Rattle.stored.specs.declared.Clause.the-variants as clauseIs
-use Rattle.moves.specs.declared.Which.{Which}
-use Rattle.moves.specs.declared.Which.the-variants.{Any}
-use Rattle.moves.specs.declared.Moves.{Moves}
-use Rattle.moves.specs.Moves.{closes, opens, activates, sets, isBranch, isAt, chosen, oneIf, howMany, movesOf, Few, ruleMoves, larger, made, madeAt, madeBelow}
-use Rattle.moves.specs.Steps.{withMove, withClause}
+use Rattle.actions.specs.declared.Which.{Which}
+use Rattle.actions.specs.declared.Which.the-variants.{Any}
+use Rattle.actions.specs.declared.Moves.{Moves}
+use Rattle.actions.specs.Steps.{isBranch, isAt, Few, withMove, withClause}
+use Rattle.moves.specs.Moves.{closes, opens, activates, sets, chosen, oneIf, howMany, movesOf, ruleMoves, larger, made, madeAt, madeBelow}
 
 -- ---- equal counts
 abbrev moves : ℕ → ℕ → ℕ → ℕ → Moves

@@ -10,10 +10,11 @@ use Rattle.scope.specs.declared.LinkStatus.the-variants.{Open, Closed, Active}
 use Rattle.scope.specs.declared.Value.{Value}
 use Rattle.scope.specs.declared.Value.the-variants.{Number, Status}
 use Rattle.tables.specs.Holding.{noRule}
-use Rattle.moves.specs.declared.Which.{Which}
-use Rattle.moves.specs.declared.Which.the-variants.{Any, One}
-use Rattle.moves.specs.declared.Moves.{Moves}
-use Rattle.moves.specs.Moves.{closes, opens, activates, sets, isAt, chosen, oneIf, howMany, movesOf, clausesOf, ruleMoves, linkMoves, allMoves}
+use Rattle.actions.specs.declared.Which.{Which}
+use Rattle.actions.specs.declared.Which.the-variants.{Any, One}
+use Rattle.actions.specs.declared.Moves.{Moves}
+use Rattle.actions.specs.Steps.{isAt}
+use Rattle.moves.specs.Moves.{closes, opens, activates, sets, chosen, oneIf, howMany, movesOf, clausesOf, ruleMoves, linkMoves, allMoves}
 
 abbrev pub total : Moves → ℕ
 total n = n .closes + n .opens + n .activates + n .sets

@@ -1,10 +1,10 @@
 -- How often the stored rules close, open, activate and set links. Assumes nothing.
-use Prim.Native.Nat.{ℕ, zero, suc, _+_, _≤_}
+use Prim.Native.Nat.{ℕ, zero, suc, _+_}
 use mathlib.Core.Path.{_≡_}
-use mathlib.Core.Bool.{Bool, true, false, cond, _&&_, not}
+use mathlib.Core.Bool.{Bool, true, false, cond, _&&_}
 use mathlib.Core.List.{List, [], _∷_, _++_}
 use lib.ListN.{length, getD, take, drop}
-use lib.Dec.{eqb, ltb}
+use lib.Dec.{ltb}
 use lib.Ieee.{Float}
 use Rattle.scope.specs.Records.{Network, Rule, Clause, condition, action, Action, countsOf}
 use Rattle.scope.specs.Tables.{recordWords, tallyWords}
@@ -13,9 +13,10 @@ use Rattle.scope.specs.declared.Value.{Value}
 use Rattle.scope.specs.declared.Value.the-variants.{Number, Status}
 use Rattle.tables.specs.Holding.{noRule}
 use Rattle.stored.specs.Back.{Stands}
-use Rattle.moves.specs.declared.Which.{Which}
-use Rattle.moves.specs.declared.Which.the-variants.{Any, One}
-use Rattle.moves.specs.declared.Moves.{Moves}
+use Rattle.actions.specs.declared.Which.{Which}
+use Rattle.actions.specs.declared.Which.the-variants.{Any, One}
+use Rattle.actions.specs.declared.Moves.{Moves}
+use Rattle.actions.specs.Steps.{isBranch, isAt}
 
 -- the tables as a reading leaves them: they hold the network, and its counts stand after its records
 pub record Tallied (m : Network) (w : List ℕ) (f : List Float) : Type 0 where
@@ -49,14 +50,6 @@ sets (Status Active) = false
 sets (Number x) = true
 
 -- ---- which actions are meant: those under ELSE or those under THEN, of any link or of the link at a place
-abbrev pub isBranch : Bool → Bool → Bool
-isBranch true otherwise = otherwise
-isBranch false otherwise = not otherwise
-
-abbrev pub isAt : Which → ℕ → Bool
-isAt Any link = true
-isAt (One i) link = eqb link i
-
 abbrev pub chosen : Which → Bool → Action → Bool
 chosen which otherwise a = isBranch otherwise (a .otherwise) && isAt which (a .link)
 
@@ -77,13 +70,6 @@ movesOf meant cs =
       activates = howMany (λ a. meant a && activates (a .value)) cs;
       sets = howMany (λ a. meant a && sets (a .value)) cs;
     }
-
--- each of the four counts is at most n
-pub record Few (n : ℕ) (x : Moves) : Type 0 where
-  pub closes : x .closes ≤ n
-  pub opens : x .opens ≤ n
-  pub activates : x .activates ≤ n
-  pub sets : x .sets ≤ n
 
 -- ---- of a rule, of a link, of all rules
 abbrev pub clausesOf : Network → Rule → List Clause

@@ -1,111 +1,20 @@
 // How often the stored rules close, open, activate and set links: of a rule, of a link, of all rules. The crew sheet stands on these counts.
 ghost use mathlib.Core.Path.{_≡_};
-ghost use mathlib.Core.Bool.{_&&_};
 ghost use mathlib.Core.List.{List};
 ghost use Prim.Native.Nat.{_-_, _≤_};
 ghost use lib.Ieee.{Float};
 ghost use lib.ListN.{length, take, drop};
 ghost use Rattle.scope.specs.Records.{Network};
 ghost use Rattle.stored.specs.Back.{Stands};
-ghost use Rattle.moves.specs.Moves.{Tallied, isBranch, isAt, chosen, movesOf, Few, larger, ruleMoves, linkMoves, allMoves, made, madeAt, madeInAll};
-ghost use Rattle.moves.specs.Steps.{withStatus, withMove, withClause};
-use scope::Action;
-use scope::LinkStatus;
-use scope::Value;
-use stored::Clause;
+ghost use Rattle.actions.specs.Steps.{Few};
+ghost use Rattle.moves.specs.Moves.{Tallied, chosen, movesOf, larger, ruleMoves, linkMoves, allMoves, made, madeAt, madeInAll};
+use actions::Moves;
+use actions::Which;
 
 // At most so many of each are stored.
 const ROOM_CLAUSES: usize = 512;
 
 const ROOM_LINKS: usize = 256;
-
-// How many actions give the status CLOSED, OPEN and ACTIVE, and how many a setting.
-pub struct Moves {
-    pub closes: usize,
-    pub opens: usize,
-    pub activates: usize,
-    pub sets: usize,
-}
-
-// Whose actions are counted: those of any link, or of the link at a place.
-enum Which {
-    Any,
-    One(usize),
-}
-
-// ---- one clause
-
-fn is_branch(of: bool, otherwise: bool) -> bool
-    ensures { λ r. ⌜ r ≡ isBranch otherwise of ⌝ }
-{
-    if otherwise { of } else { !of }
-}
-
-fn is_at(link: usize, which: Which) -> bool
-    ensures { λ r. ⌜ r ≡ isAt which link ⌝ }
-{
-    match which {
-        Which::Any => true,
-        Which::One(i) => link == i,
-    }
-}
-
-fn is_chosen(a: Action, which: Which, otherwise: bool) -> bool
-    ensures { λ r. ⌜ r ≡ (isBranch otherwise (a .otherwise) && isAt which (a .link)) ⌝ }
-{
-    if is_branch(a.otherwise, otherwise) {
-        return is_at(a.link, which);
-    }
-    false
-}
-
-fn with_status(n: Moves, status: LinkStatus) -> Moves
-    requires { ⌜ Few 511 n ⌝ }
-    ensures { λ r. ⌜ r ≡ withStatus n status ⌝ }
-{
-    let mut next = n;
-    match status {
-        LinkStatus::Closed => {
-            next.closes += 1;
-        }
-        LinkStatus::Open => {
-            next.opens += 1;
-        }
-        LinkStatus::Active => {
-            next.activates += 1;
-        }
-    }
-    next
-}
-
-fn with_move(n: Moves, value: Value) -> Moves
-    requires { ⌜ Few 511 n ⌝ }
-    ensures { λ r. ⌜ r ≡ withMove n value ⌝ }
-{
-    match value {
-        Value::Status(s) => with_status(n, s),
-        Value::Number(_) => Moves {
-            closes: n.closes,
-            opens: n.opens,
-            activates: n.activates,
-            sets: n.sets + 1,
-        },
-    }
-}
-
-// The counts with what a clause adds to them.
-fn with_clause(n: Moves, clause: Clause, which: Which, otherwise: bool) -> Moves
-    requires { ⌜ Few 511 n ⌝ }
-    ensures { λ r. ⌜ r ≡ withClause which otherwise n clause ⌝ }
-{
-    if let Clause::Action(a) = clause {
-        if is_chosen(a, which, otherwise) {
-            let value = a.value;
-            return with_move(n, value);
-        }
-    }
-    n
-}
 
 // ---- a range of clauses
 
@@ -131,7 +40,7 @@ fn moves_between(
     let mut k = first;
     while k < end {
         let clause = stored::clause_at(words, numbers, k);
-        n = with_clause(n, clause, which, otherwise);
+        n = actions::with_clause(n, clause, which, otherwise);
         k += 1;
     }
     n

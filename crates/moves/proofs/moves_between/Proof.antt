@@ -7,13 +7,13 @@ use lib.ListN.{length}
 use borrow.Author.Needs.{needs}
 use Rattle.scope.specs.Records.{Network}
 use Rattle.stored.specs.Back.{Stands}
-use Rattle.moves.specs.Moves.{Few}
+use Rattle.actions.specs.Steps.{Few}
 use Rattle.moves.proofs.MovesLaws.{sofar, none-yet, then-one-more, all-of-them, few-none, few-more, few-within}
 use Rattle.moves.proofs.moves_between.Statement.{statement}
 use Rattle.moves.proofs.moves_between.Tie as tie
 use Rattle.moves.proofs.moves_between.Reads as reads
 use Rattle.moves.proofs.moves_between.Lts as lts
-use Rattle.moves.proofs.with_clause.Reads as with-clause-reads
+use Rattle.actions.proofs.with_clause.Reads as with-clause-reads
 use Rattle.stored.proofs.clause_at.Reads as clause-at-reads
 
 abbrev Inv-loop : tie.InvT-loop

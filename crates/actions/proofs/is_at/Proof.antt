@@ -1,8 +1,8 @@
 use borrow.Author.Needs.{needs}
-use Rattle.moves.proofs.is_at.Statement.{statement}
-use Rattle.moves.proofs.is_at.Tie as tie
-use Rattle.moves.proofs.is_at.Reads as reads
-use Rattle.moves.proofs.is_at.Lts as lts
+use Rattle.actions.proofs.is_at.Statement.{statement}
+use Rattle.actions.proofs.is_at.Tie as tie
+use Rattle.actions.proofs.is_at.Reads as reads
+use Rattle.actions.proofs.is_at.Lts as lts
 
 enum-told : tie.Need-enum-told
 enum-told c = search needs

@@ -1,11 +1,11 @@
 use mathlib.Core.Path.{sym, _∙_}
 use borrow.Author.Needs.{needs}
-use Rattle.moves.proofs.with_clause.Statement.{statement}
-use Rattle.moves.proofs.with_clause.Tie as tie
-use Rattle.moves.proofs.with_clause.Reads as reads
-use Rattle.moves.proofs.with_clause.Lts as lts
-use Rattle.moves.proofs.is_chosen.Reads as is-chosen-reads
-use Rattle.moves.proofs.with_move.Reads as with-move-reads
+use Rattle.actions.proofs.with_clause.Statement.{statement}
+use Rattle.actions.proofs.with_clause.Tie as tie
+use Rattle.actions.proofs.with_clause.Reads as reads
+use Rattle.actions.proofs.with_clause.Lts as lts
+use Rattle.actions.proofs.is_chosen.Reads as is-chosen-reads
+use Rattle.actions.proofs.with_move.Reads as with-move-reads
 
 enum-known-clause : tie.Need-enum-known-clause
 enum-known-clause c = search needs

@@ -1,8 +1,8 @@
 use borrow.Author.Needs.{needs}
-use Rattle.moves.proofs.with_status.Statement.{statement}
-use Rattle.moves.proofs.with_status.Tie as tie
-use Rattle.moves.proofs.with_status.Reads as reads
-use Rattle.moves.proofs.with_status.Lts as lts
+use Rattle.actions.proofs.with_status.Statement.{statement}
+use Rattle.actions.proofs.with_status.Tie as tie
+use Rattle.actions.proofs.with_status.Reads as reads
+use Rattle.actions.proofs.with_status.Lts as lts
 
 enum-told : tie.Need-enum-told
 enum-told c = search needs

@@ -1,15 +1,32 @@
--- What the steps of the count do; only functions inside this crate promise it. Assumes nothing.
-use Prim.Native.Nat.{_+_}
-use mathlib.Core.Bool.{Bool, cond, _&&_}
+-- Which actions are meant, and what one clause adds to the counts. Assumes nothing.
+use Prim.Native.Nat.{ℕ, _+_, _≤_}
+use mathlib.Core.Bool.{Bool, true, false, cond, _&&_, not}
+use lib.Dec.{eqb}
 use Rattle.scope.specs.declared.LinkStatus.{LinkStatus}
 use Rattle.scope.specs.declared.LinkStatus.the-variants.{Open, Closed, Active}
 use Rattle.scope.specs.declared.Value.{Value}
 use Rattle.scope.specs.declared.Value.the-variants.{Number, Status}
 use Rattle.stored.specs.declared.Clause.{Clause}
 use Rattle.stored.specs.declared.Clause.the-variants.{Condition, Action}
-use Rattle.moves.specs.declared.Which.{Which}
-use Rattle.moves.specs.declared.Moves.{Moves}
-use Rattle.moves.specs.Moves.{isBranch, isAt}
+use Rattle.actions.specs.declared.Which.{Which}
+use Rattle.actions.specs.declared.Which.the-variants.{Any, One}
+use Rattle.actions.specs.declared.Moves.{Moves}
+
+-- under ELSE or under THEN, of any link or of the link at a place
+abbrev pub isBranch : Bool → Bool → Bool
+isBranch true otherwise = otherwise
+isBranch false otherwise = not otherwise
+
+abbrev pub isAt : Which → ℕ → Bool
+isAt Any link = true
+isAt (One i) link = eqb link i
+
+-- each of the four counts is at most n
+pub record Few (n : ℕ) (x : Moves) : Type 0 where
+  pub closes : x .closes ≤ n
+  pub opens : x .opens ≤ n
+  pub activates : x .activates ≤ n
+  pub sets : x .sets ≤ n
 
 -- the counts with one move more
 abbrev pub withStatus : Moves → LinkStatus → Moves

@@ -1,9 +1,9 @@
 use borrow.Author.Needs.{needs}
-use Rattle.moves.proofs.with_move.Statement.{statement}
-use Rattle.moves.proofs.with_move.Tie as tie
-use Rattle.moves.proofs.with_move.Reads as reads
-use Rattle.moves.proofs.with_move.Lts as lts
-use Rattle.moves.proofs.with_status.Reads as with-status-reads
+use Rattle.actions.proofs.with_move.Statement.{statement}
+use Rattle.actions.proofs.with_move.Tie as tie
+use Rattle.actions.proofs.with_move.Reads as reads
+use Rattle.actions.proofs.with_move.Lts as lts
+use Rattle.actions.proofs.with_status.Reads as with-status-reads
 
 enum-known-value : tie.Need-enum-known-value
 enum-known-value c = search needs
