@@ -67,7 +67,7 @@ fn replay(all: &[u8]) {
     let mut from = 0;
     let mut at = 0;
     while at < all.len() {
-        let end = fields::line_end(all, at);
+        let end = scans::line_end(all, at);
         if all[at] == 35 {
             show_part(all, from, at);
             write(fields::letters_of(all, Span { at, end }));

@@ -67,7 +67,7 @@ fn because(reason: u8) {
 
 fn quoted(line: &[u8]) {
     write(b"    ");
-    printing::plain(fields::trimmed(line));
+    printing::plain(scans::trimmed(line));
     newline();
 }
 
@@ -120,7 +120,7 @@ fn show_lines(text: &[u8], classes: &[u8; 65536], reasons: &[u8; 65536]) {
     let mut is_open = false;
     let mut at = 0;
     for i in 0..65536 {
-        let end = fields::line_end(text, at);
+        let end = scans::line_end(text, at);
         let line = fields::letters_of(text, Span { at, end });
         is_open = show_line(i + 1, classes[i], reasons[i], is_open, line);
         at = end;

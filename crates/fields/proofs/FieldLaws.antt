@@ -5,20 +5,21 @@ use native.Mathlib.Omega.{arith}
 use native.Mathlib.Nat.{add-zero, suc-sub-suc, sub-zero, zero-sub}
 use native.Mathlib.Numerals.{add-one}
 use mathlib.Core.Path.{_≡_, refl, sym, ap, ap₂, _∙_, subst}
-use mathlib.Core.Bool.{Bool, true, false, cond}
+use mathlib.Core.Bool.{Bool, true, false, cond, not}
 use mathlib.Core.List.{List, [], _∷_, map}
 use lib.ListN.{length, take, drop, getD, length-drop, length-take, drop-of-length-le}
-use lib.Seq.{drop-cons, drop-drop, length-take-le, take-take, take-nil, getD-drop}
+use lib.Seq.{drop-cons, drop-drop, take-take, take-nil, getD-drop}
 use Rattle.digits.specs.Ends.{wordLen}
-use Rattle.fields.specs.Lines.{isSpace, startTrimmed, cutOf}
-use Rattle.fields.specs.Fields.{Name, part, nameIn, onFirst, before, fieldsOf, fieldsAt, rest, endOr, Fits, Next, Past}
-use Rattle.fields.specs.Scan.{spanLen, startAt}
-use Rattle.fields.specs.declared.Kind.the-variants.{Space, Word}
+use Rattle.scans.specs.Lines.{isSpace, startTrimmed, cutOf}
+use Rattle.scans.specs.Scan.{spanLen}
+use Rattle.scans.specs.declared.Kind.the-variants.{Space, Word}
+use Rattle.fields.specs.Fields.{Name, part, nameIn, onFirst, before, fieldsOf, fieldsAt, startAt, rest, endOr, Fits, Next, Past}
 use Rattle.fields.specs.declared.Span.{Span}
 use Rattle.fields.specs.declared.Field.{Field}
 use Rattle.fields.specs.declared.Field.the-variants.{Taken, Nothing}
-use Rattle.fields.proofs.ScanLaws.{span-le, span-stop, span-counted}
-use Rattle.fields.proofs.LineLaws.{start-at, cut-prefix}
+use Rattle.scans.proofs.ScanLaws.{span-le, span-stop}
+use Rattle.scans.proofs.LineLaws.{start-at, cut-prefix}
+pub use Rattle.scans.proofs.ScanLaws.{length-part}
 
 -- whitespace before the fields is passed over
 pub fields-skip : (at : ℕ) (l : List ℕ) → fieldsOf at l ≡ fieldsOf (at + spanLen Space l) (drop (spanLen Space l) l)
@@ -73,6 +74,16 @@ is-taken {l} {at} s h k =
       nothing = λ e. let z : _≡_ {A = ℕ} 0 1 = cc in absurd (omega arith);
     }
 
+-- a field is as long as the number's reader counts
+pub span-counted : (l : List ℕ) → spanLen Word l ≡ wordLen l
+unfolding spanLen wordLen
+span-counted [] = refl
+span-counted (b ∷ bs) = go (isSpace b) (span-counted bs)
+  where
+    go : (t : Bool) → spanLen Word bs ≡ wordLen bs → cond (not t) (suc (spanLen Word bs)) 0 ≡ cond t 0 (suc (wordLen bs))
+    go true e = refl
+    go false e = ap suc e
+
 -- what the next field is, by where the whitespace and the word end
 module _ (l : List ℕ) (at start end : ℕ) (es : start ≡ startAt l at) where
   pub skipped : fieldsAt l at ≡ fieldsAt l start
@@ -107,9 +118,6 @@ part-take (suc a) zero n l h = rw zero-sub
 part-take (suc a) (suc e) zero l h = absurd (omega arith)
 part-take (suc a) (suc e) (suc n) [] h = refl
 part-take (suc a) (suc e) (suc n) (x ∷ l) h = rw suc-sub-suc (part-take a e n l (omega arith))
-
-pub length-part : (a e : ℕ) (l : List ℕ) → e ≤ length l → length (part a e l) ≡ e - a
-length-part a e l h = length-take-le (e - a) (drop a l) (omega (arith, length-drop a l))
 
 pub part-none : (a e : ℕ) (l : List ℕ) → e ≤ a → part a e l ≡ []
 part-none a e l h = let k : e - a ≡ 0 = omega arith in rw k

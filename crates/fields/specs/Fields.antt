@@ -1,11 +1,14 @@
 -- Fields, as document 01 has them under "Lines and groups": "Fields are separated by whitespace; extra ones are ignored. A field is handed out as the part of the caller's text it is." Assumes nothing.
-use Prim.Native.Nat.{ℕ, suc, _+_, _-_, _<_, _≤_}
+use Prim.Native.Nat.{ℕ, suc, _+_, _<_, _≤_}
 use mathlib.Core.Path.{_≡_}
 use mathlib.Core.Bool.{cond}
 use mathlib.Core.List.{List, [], _∷_}
 use mathlib.Core.Option.{Option, none, some}
-use lib.ListN.{length, take, drop}
-use Rattle.fields.specs.Lines.{isSpace}
+use lib.ListN.{length, drop}
+use Rattle.scans.specs.Lines.{isSpace}
+use Rattle.scans.specs.Scan.{spanLen}
+use Rattle.scans.specs.declared.Kind.the-variants.{Space}
+pub use Rattle.scans.specs.Scan.{part}
 use Rattle.fields.specs.declared.Span.{Span}
 use Rattle.fields.specs.declared.Field.{Field}
 use Rattle.fields.specs.declared.Field.the-variants.{Taken, Nothing}
@@ -15,10 +18,6 @@ use Rattle.fields.specs.declared.Field.the-variants.{Taken, Nothing}
 pub record Name : Type 0 where
   pub at : ℕ
   pub letters : List ℕ
-
--- the bytes of l from place a up to place e
-abbrev pub part : ℕ → ℕ → List ℕ → List ℕ
-part a e l = take (e - a) (drop a l)
 
 -- the name that a span of l is
 abbrev pub nameIn : List ℕ → Span → Name
@@ -42,6 +41,10 @@ fieldsOf at (b ∷ bs) = cond (isSpace b) (fieldsOf (suc at) bs) (before at b bs
 -- the fields of l from the place `at` on
 abbrev pub fieldsAt : List ℕ → ℕ → List Name
 fieldsAt l at = fieldsOf at (drop at l)
+
+-- where the whitespace of l from the place `at` on ends: the next field starts there, if there is one
+abbrev pub startAt : List ℕ → ℕ → ℕ
+startAt l at = at + spanLen Space (drop at l)
 
 -- the fields after the first
 abbrev pub rest : List Name → List Name

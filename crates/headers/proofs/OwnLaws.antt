@@ -9,17 +9,17 @@ use lib.ListN.{length, take, drop, length-append, length-take, length-drop, drop
 use lib.Seq.{take-length, take-all}
 use Rattle.digits.specs.Bytes.{classOf}
 use Rattle.fields.specs.Fields.{Name, part, fieldsOf, fieldsAt, Next}
-use Rattle.fields.specs.Lines.{chunks, joined, lineLen, startTrimmed, endTrimmed, trimmed, lineKind}
+use Rattle.scans.specs.Lines.{chunks, joined, lineLen, startTrimmed, endTrimmed, trimmed, lineKind}
 use Rattle.letters.specs.Words.{begins}
-use Rattle.fields.specs.Scan.{spanLen}
+use Rattle.scans.specs.Scan.{spanLen}
 use Rattle.fields.specs.declared.Span.{Span}
-use Rattle.fields.specs.declared.LineKind.{LineKind}
-use Rattle.fields.specs.declared.LineKind.the-variants as kind
+use Rattle.scans.specs.declared.LineKind.{LineKind}
+use Rattle.scans.specs.declared.LineKind.the-variants as kind
 use Rattle.fields.specs.declared.Field.{Field}
 use Rattle.fields.specs.declared.Field.the-variants.{Taken, Nothing}
 use Rattle.fields.proofs.FieldLaws.{start-taken, start-nothing, drop-take, part-take}
-use Rattle.fields.proofs.LineLaws.{end-le, end-more, body-is, body-long, chunks-at, trimmed-start}
-use Rattle.fields.proofs.TrimLaws.{begins-trimmed}
+use Rattle.scans.proofs.LineLaws.{end-le, end-more, body-is, body-long, chunks-at, trimmed-start}
+use Rattle.scans.proofs.TrimLaws.{begins-trimmed}
 use Rattle.lines.specs.Reader as L
 use Rattle.lines.specs.Text.{Line}
 use Rattle.lines.specs.Stretch.{secBy, ownBy, secAfter}

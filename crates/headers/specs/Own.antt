@@ -6,7 +6,7 @@ use mathlib.Core.Bool.{cond}
 use mathlib.Core.List.{List, [], _∷_, _++_}
 use lib.ListN.{length, take, drop}
 use Rattle.fields.specs.Fields.{Name, fieldsOf, fieldsAt}
-use Rattle.fields.specs.Lines.{chunks}
+use Rattle.scans.specs.Lines.{chunks}
 use Rattle.fields.specs.declared.Span.{Span}
 use Rattle.lines.specs.Reader as L
 use Rattle.lines.specs.Stretch.{secBy, ownBy}

@@ -1,15 +1,15 @@
 // The section that a header opens, what a line is, and the lines of a group.
 ghost use mathlib.Core.Path.{_≡_};
 ghost use lib.ListN.{drop};
-ghost use Rattle.fields.specs.declared.LineKind.the-variants as kind;
+ghost use Rattle.scans.specs.declared.LineKind.the-variants as kind;
 ghost use Rattle.lines.specs.Stretch.{secBy, ownBy};
 ghost use Rattle.scope.specs.Sections.{sectionOf, isRules};
 ghost use Rattle.scope.specs.Lines.{sortBy, sortOf};
 ghost use Rattle.headers.specs.Sections.{linkSection, seriesSection, otherSection};
 ghost use Rattle.headers.specs.Own.{sortIn, OwnFrom, NextOwn};
 use fields::Field;
-use fields::LineKind;
 use fields::Span;
+use scans::LineKind;
 use scope::Section;
 
 // ---- the section that a header opens: `w` is the header's line, trimmed. A chain of four, as a check grows with the square of a chain's length
@@ -105,10 +105,10 @@ pub fn sort_of(l: &[u8], at: usize) -> Sort
         return Sort::Empty;
     };
     let w = letters::cut(l, s.at, l.len());
-    let k = fields::line_kind(w, 0);
+    let k = scans::line_kind(w, 0);
     match k {
         LineKind::Blank => Sort::Empty,
-        LineKind::Header => Sort::Heading(section_of(fields::trimmed(w))),
+        LineKind::Header => Sort::Heading(section_of(scans::trimmed(w))),
         LineKind::Other => plain_sort(w),
     }
 }
@@ -160,7 +160,7 @@ fn own_from(text: &[u8], from: usize) -> OwnLine
     let mut section = Section::Rules;
     let mut p = from;
     while p < text.len() {
-        let e = fields::line_end(text, p);
+        let e = scans::line_end(text, p);
         let k = sort_of(letters::cut(text, 0, e), p);
         if own_by(k, section) {
             return OwnLine::Line(Span { at: p, end: e });

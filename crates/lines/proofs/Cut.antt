@@ -7,8 +7,8 @@ use native.Mathlib.Omega.{arith}
 use lib.ListN.{length, take, drop, length-append, length-drop}
 use lib.Seq.{take-at, take-append-seam}
 use lib.Dec.{eqb}
-use Rattle.fields.specs.Lines.{push, chunks, joined, lineLen}
-use Rattle.fields.proofs.LineLaws.{joined-chunks, body-long, chunks-at}
+use Rattle.scans.specs.Lines.{push, chunks, joined, lineLen}
+use Rattle.scans.proofs.LineLaws.{joined-chunks, body-long, chunks-at}
 use Rattle.lines.specs.Text.{number, linesFrom, lineAt}
 
 -- a line with its line feed, and one without

@@ -8,8 +8,8 @@ use mathlib.Core.Bool.{Bool, true, false, cond, false≢true}
 use mathlib.Core.List.{List, [], _∷_, _++_, map, append-assoc, append-nil}
 use lib.ListN.{length, take, drop, set, replicate, length-append, drop-of-length-le}
 use lib.Dec.{eqb}
-use Rattle.fields.specs.Lines.{chunks, lineLen}
-use Rattle.fields.proofs.LineLaws.{body-long}
+use Rattle.scans.specs.Lines.{chunks, lineLen}
+use Rattle.scans.proofs.LineLaws.{body-long}
 use Rattle.lines.specs.Reader.{Reader, Standing, standing, good, bad, Mark, unclosed, Outcome, still, filed, joins, closes, itself, last, fresh, settle, next, Piece, aLine, aGroup, Reply, stopped, unless, stopAt, step, read, ending, endVerdict, endFate, strict, after, marks, surveyMarks, surveyRecs, count}
 use Rattle.lines.specs.Text.{Line, linesOf, number, pieceNo, linesFrom, bodyAt, lineAt}
 use Rattle.lines.specs.Turn.{refusalIn, fineIn, refusal, fine, closedBy, pieceBy, Tells}

@@ -6,8 +6,8 @@ use mathlib.Core.Bool.{Bool, true, false, cond}
 use mathlib.Core.List.{List, [], _∷_, _++_, append-assoc, append-nil, map-append}
 use lib.ListN.{length, take, drop, length-drop}
 use lib.Seq.{append-snoc, drop-drop}
-use Rattle.fields.specs.Lines.{chunks, lineLen}
-use Rattle.fields.proofs.LineLaws.{chunks-at}
+use Rattle.scans.specs.Lines.{chunks, lineLen}
+use Rattle.scans.proofs.LineLaws.{chunks-at}
 use Rattle.lines.specs.Reader.{Sort, aGroup, ifOpen}
 use Rattle.lines.specs.Text.{Line, pieceNo, bodyAt, lineAt}
 use Rattle.lines.specs.Stretch.{secBy, ownBy, bodies, secAfter, owned, walked, seenAll, Stretch}

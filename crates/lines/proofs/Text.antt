@@ -8,8 +8,8 @@ use native.Mathlib.Omega.{arith}
 use lib.ListN.{length, take, drop, length-append}
 use lib.Seq.{take-at, drop-at}
 use mathlib.Core.Logic.{_↔_}
-use Rattle.fields.specs.Lines.{chunks, joined}
-use Rattle.fields.proofs.LineLaws.{joined-chunks}
+use Rattle.scans.specs.Lines.{chunks, joined}
+use Rattle.scans.proofs.LineLaws.{joined-chunks}
 use Rattle.lines.specs.Reader.{Reader, standing, Mark, marked, unclosed, Reply, accepted, stopped, refused, struck, strikeBy, strict, strictTo, after, ruleRefused, surveyMarks, surveyRecs, marks, strike, Piece, aLine, aGroup}
 use Rattle.lines.specs.Text.{Line, number, linesOf, strikeText, renumber, SameBody, Moved, pieceNo, upTo, Each, nothing, each}
 use Rattle.lines.specs.Demand3.{markOf, Opens, upToStruck, TextGroupStop, textLine, textEnd}

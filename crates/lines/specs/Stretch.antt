@@ -6,7 +6,7 @@ use mathlib.Core.Bool.{Bool, false, cond}
 use mathlib.Core.List.{List, [], _∷_, _++_, map}
 use Prim.Native.Nat.{ℕ, _≤_, _<_}
 use lib.ListN.{drop}
-use Rattle.fields.specs.Lines.{chunks}
+use Rattle.scans.specs.Lines.{chunks}
 use Rattle.lines.specs.Reader.{Sort, empty, heading, start, other, aGroup}
 use Rattle.lines.specs.Text.{Line, pieceNo}
 

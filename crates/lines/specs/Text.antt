@@ -4,7 +4,7 @@ use mathlib.Core.Bool.{cond}
 use mathlib.Core.List.{List, [], _∷_}
 use Prim.Native.Nat.{ℕ, zero, suc, _+_}
 use lib.ListN.{length, take, drop}
-use Rattle.fields.specs.Lines.{chunks, joined, lineLen}
+use Rattle.scans.specs.Lines.{chunks, joined, lineLen}
 use Rattle.lines.specs.Reader.{Mark, Piece, aLine, aGroup, struck, strikeBy}
 
 -- a line: its number from 1, the place where it starts, its bytes

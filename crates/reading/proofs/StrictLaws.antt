@@ -9,8 +9,8 @@ use lib.ListN.{length, drop, getD, replicate, drop-of-length-le}
 use lib.Seq.{drop-cons}
 use lib.Dec.{ltb}
 use lib.Ieee.{Float}
-use Rattle.fields.specs.Lines.{lineLen}
-use Rattle.fields.proofs.LineLaws.{body-long, end-more}
+use Rattle.scans.specs.Lines.{lineLen}
+use Rattle.scans.proofs.LineLaws.{body-long, end-more}
 use Rattle.lines.specs.Reader.{accepted, Outcome, settle, unless, next, step, ending, endVerdict}
 use Rattle.lines.specs.Text.{lineAt}
 use Rattle.lines.proofs.Loops.{Going, going-start, going-on, going-stops, going-ends}

@@ -2,7 +2,7 @@
 use mathlib.Core.Path.{_≡_, refl, ap, ap₂, _∙_}
 use mathlib.Core.List.{List, [], _∷_, map}
 use Rattle.fields.specs.Fields.{Name}
-use Rattle.fields.specs.Lines.{cutOf}
+use Rattle.scans.specs.Lines.{cutOf}
 use Rattle.lines.specs.Reader as L
 use Rattle.lines.specs.Text.{Line, SameBody}
 use Rattle.lines.specs.Alike.{mapV, mapS, Erases, Alike}

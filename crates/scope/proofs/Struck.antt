@@ -7,8 +7,8 @@ use mathlib.Core.Bool.{Bool, true, false, cond, false≢true}
 use mathlib.Core.List.{List, [], _∷_, _++_}
 use lib.ListN.{length, take, length-append}
 use lib.Dec.{ltb}
-use Rattle.fields.specs.Lines.{chunks, joined}
-use Rattle.fields.proofs.LineLaws.{joined-chunks}
+use Rattle.scans.specs.Lines.{chunks, joined}
+use Rattle.scans.proofs.LineLaws.{joined-chunks}
 use Rattle.lines.specs.Reader.{Mark, struck, strikeBy}
 use Rattle.lines.specs.Text.{strikeText, upTo}
 use Rattle.scope.specs.Sections.{roomText}

@@ -14,10 +14,10 @@ use Rattle.decimals.specs.Numbers.{numberOf}
 use Rattle.decimals.specs.declared.Number as N
 use Rattle.decimals.specs.declared.Number.the-variants as number
 use Rattle.fields.specs.Fields.{Name, fieldsOf}
-use Rattle.fields.specs.Lines.{cutOf}
+use Rattle.scans.specs.Lines.{cutOf}
 use Rattle.letters.specs.Words.{same}
 use Rattle.fields.proofs.FieldLaws.{Stands, Ordered, ordered, drop-take, part-take}
-use Rattle.fields.proofs.LineLaws.{cut-prefix}
+use Rattle.scans.proofs.LineLaws.{cut-prefix}
 use Rattle.lines.specs.Text.{Line, Each, nothing, each}
 use Rattle.scope.specs.declared.Reason.{Reason}
 use Rattle.scope.specs.declared.Found.{Found}

@@ -4,7 +4,7 @@ use Prim.Native.Nat.{ℕ}
 use mathlib.Core.List.{List, map}
 use mathlib.Core.Option.{Option, none, some}
 use Rattle.fields.specs.Fields.{Name, fieldsOf}
-use Rattle.fields.specs.Lines.{cutOf}
+use Rattle.scans.specs.Lines.{cutOf}
 use Rattle.lines.specs.Reader as L
 use Rattle.scope.specs.declared.Section.{Section}
 use Rattle.scope.specs.Sections.{isRules}

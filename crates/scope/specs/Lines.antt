@@ -4,10 +4,10 @@ use Prim.Native.Nat.{ℕ}
 use mathlib.Core.Bool.{Bool, cond}
 use mathlib.Core.List.{List, map}
 use Rattle.fields.specs.Fields.{Name, fieldsOf}
-use Rattle.fields.specs.Lines.{trimmed, lineKind, cutOf}
+use Rattle.scans.specs.Lines.{trimmed, lineKind, cutOf}
 use Rattle.letters.specs.Words.{begins}
-use Rattle.fields.specs.declared.LineKind.{LineKind}
-use Rattle.fields.specs.declared.LineKind.the-variants.{Blank, Header, Other}
+use Rattle.scans.specs.declared.LineKind.{LineKind}
+use Rattle.scans.specs.declared.LineKind.the-variants.{Blank, Header, Other}
 use Rattle.lines.specs.Reader as L
 use Rattle.lines.specs.Text.{Line}
 use Rattle.scope.specs.declared.Section.{Section}

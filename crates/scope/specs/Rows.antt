@@ -16,7 +16,7 @@ use Rattle.decimals.specs.Reach.{meaning}
 use Rattle.clock.specs.Times.{timeOf, colonForm, hourOf, inUnit, colonAt, withoutS, unitOf}
 use Rattle.clock.specs.Times as clock
 use Rattle.fields.specs.Fields.{fieldsOf}
-use Rattle.fields.specs.Lines.{trimmed, lineKind, cutOf, startTrimmed, endTrimmed}
+use Rattle.scans.specs.Lines.{trimmed, lineKind, cutOf, startTrimmed, endTrimmed}
 use Rattle.letters.specs.Words.{same}
 use Rattle.lines.specs.Reader.{Mark, surveyMarks, surveyRecs, strict, code, count}
 use Rattle.lines.specs.Text.{linesOf, pieceNo}

@@ -9,7 +9,7 @@ use lib.Ieee.{Float}
 use Rattle.decimals.specs.Numbers.{numberOf}
 use Rattle.decimals.specs.declared.Number as D
 use Rattle.decimals.specs.declared.Number.the-variants.{Value, Malformed, Beyond}
-use Rattle.fields.specs.Lines.{isSpace}
+use Rattle.scans.specs.Lines.{isSpace}
 use Rattle.fields.specs.Fields.{Name, onFirst, before, fieldsOf, fieldsAt}
 use Rattle.scope.specs.declared.Reason.{Reason}
 use Rattle.scope.specs.declared.Reason.the-variants as reason

@@ -7,8 +7,8 @@ use mathlib.Core.List.{List, [], _∷_, _++_, map, map-append}
 use lib.ListN.{length, take, drop, length-drop}
 use lib.Seq.{append-snoc, drop-drop, length-take-le}
 use Rattle.fields.specs.Fields.{Name, fieldsOf}
-use Rattle.fields.specs.Lines.{chunks, joined, lineLen}
-use Rattle.fields.proofs.LineLaws.{joined-chunks, end-le, end-more, chunks-at}
+use Rattle.scans.specs.Lines.{chunks, joined, lineLen}
+use Rattle.scans.proofs.LineLaws.{joined-chunks, end-le, end-more, chunks-at}
 use Rattle.fields.proofs.FieldLaws.{drop-take}
 use Rattle.lines.specs.Text.{Line, bodyAt, lineAt}
 use Rattle.lines.specs.Stretch.{Stretch, bodies, ownBy, secBy}

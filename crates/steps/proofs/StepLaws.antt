@@ -6,8 +6,8 @@ use mathlib.Core.Bool.{Bool, true, false, cond}
 use mathlib.Core.List.{List, [], _∷_, _++_, append-nil}
 use lib.ListN.{length, drop}
 use lib.Ieee.{Float}
-use Rattle.fields.specs.Lines.{lineLen}
-use Rattle.fields.proofs.LineLaws.{end-le, end-more, body-long}
+use Rattle.scans.specs.Lines.{lineLen}
+use Rattle.scans.proofs.LineLaws.{end-le, end-more, body-long}
 use Rattle.lines.specs.Reader as L
 use Rattle.lines.specs.Reader.{Still, stillClass, still, filed, joins, closes, settle, next, code, standing}
 use Rattle.lines.specs.Text.{Line, bodyAt, lineAt}

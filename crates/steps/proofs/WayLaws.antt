@@ -7,8 +7,8 @@ use mathlib.Core.List.{List, [], map}
 use lib.ListN.{length, take, drop, length-take, length-drop}
 use lib.Ieee.{Float}
 use Rattle.fields.specs.Fields.{Name, fieldsOf, fieldsAt}
-use Rattle.fields.specs.Lines.{lineLen, cutOf}
-use Rattle.fields.proofs.LineLaws.{end-le, end-more, body-is, cut-prefix}
+use Rattle.scans.specs.Lines.{lineLen, cutOf}
+use Rattle.scans.proofs.LineLaws.{end-le, end-more, body-is, cut-prefix}
 use Rattle.fields.proofs.FieldLaws.{drop-take, line-cut-fields}
 use Rattle.lines.specs.Reader as L
 use Rattle.lines.specs.Reader.{Outcome, still, filed, joins, closes, last, itself, isBlank, isHeader, isPassed, stillClass, code, ifOpen, ofStored, shut, act, step, empty, heading, start, other}

@@ -4,7 +4,7 @@ ghost use mathlib.Core.Bool.{true, false, cond};
 ghost use Prim.Native.Nat.{_+_, _≤_, _<_};
 ghost use lib.ListN.{length, take, drop, set};
 ghost use Rattle.fields.specs.Fields.{fieldsAt};
-ghost use Rattle.fields.specs.Lines.{lineLen};
+ghost use Rattle.scans.specs.Lines.{lineLen};
 ghost use Rattle.lines.specs.Reader.{act, step, empty, start, other, closes, shut};
 ghost use Rattle.lines.specs.Text.{bodyAt};
 ghost use Rattle.scope.specs.Sections.{isRules};
@@ -275,7 +275,7 @@ fn filed(text: &[u8], s: State, e: usize, words: &mut [u64], numbers: &mut [f64]
     let at = s.at;
     let section = s.section;
     let counts = s.counts;
-    let end = fields::cut_end(&text[..e], at);
+    let end = scans::cut_end(&text[..e], at);
     let k = store_line(section, text, at, end, counts, words, numbers);
     match k {
         Kept::Stored(c) => Turn {
@@ -377,7 +377,7 @@ pub fn step(text: &[u8], s: State, words: &mut [u64], numbers: &mut [f64]) -> Tu
     ensures { λ r. ⌜ Goes (now (text .entry)) s (now (words .entry)) (now (numbers .entry)) (step inp false) r (now (words .exit)) (now (numbers .exit)) ⌝ }
 {
     let at = s.at;
-    let e = fields::line_end(text, at);
+    let e = scans::line_end(text, at);
     let k = headers::sort_of(&text[..e], at);
     match k {
         Sort::Empty => blank(text, s, e, words, numbers),

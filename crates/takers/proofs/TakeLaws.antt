@@ -15,7 +15,7 @@ use Rattle.decimals.specs.Numbers.{numberOf}
 use Rattle.decimals.specs.Begun.{Begins}
 use Rattle.decimals.proofs.Number.{the-type}
 use Rattle.digits.proofs.Lists.{tail-of}
-use Rattle.fields.specs.Scan.{startAt}
+use Rattle.fields.specs.Fields.{startAt}
 use Rattle.fields.specs.declared.Span.{Span}
 use Rattle.fields.specs.Fields.{Name, part, nameIn, fieldsAt, rest, Next}
 use Rattle.fields.proofs.FieldLaws.{skipped, next-nothing, next-word}

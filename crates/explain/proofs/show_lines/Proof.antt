@@ -6,7 +6,7 @@ use Rattle.explain.proofs.show_lines.Reads as reads
 use Rattle.explain.proofs.show_lines.Lts as lts
 use Rattle.explain.proofs.show_line.Reads as show-line-reads
 use Rattle.fields.proofs.letters_of.Reads as letters-of-reads
-use Rattle.fields.proofs.line_end.Reads as line-end-reads
+use Rattle.scans.proofs.line_end.Reads as line-end-reads
 
 abbrev Inv-loop : tie.InvT-loop
 Inv-loop text classes reasons is-open₀ at₀ i₀ is-open at i = i ≤ 65536

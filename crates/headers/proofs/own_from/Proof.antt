@@ -5,8 +5,8 @@ use Prim.Native.Nat.{_≤_, _-_}
 use native.Mathlib.Omega.{arith}
 use borrow.Author.Needs.{needs}
 use lib.ListN.{length, drop}
-use Rattle.fields.specs.Lines.{chunks}
-use Rattle.fields.proofs.LineLaws.{end-le, end-more}
+use Rattle.scans.specs.Lines.{chunks}
+use Rattle.scans.proofs.LineLaws.{end-le, end-more}
 use Rattle.scope.specs.declared.Section.the-variants.{Rules}
 use Rattle.headers.specs.Own.{ownFields}
 use Rattle.headers.proofs.OwnLaws.{told-own, told-other, own-end, no-own}

@@ -2,7 +2,7 @@ use native.Mathlib.Omega.{arith}
 use mathlib.Core.Path.{sym}
 use lib.Seq.{length-take-le}
 use denote.Ref.{now}
-use Rattle.fields.proofs.LineLaws.{end-le}
+use Rattle.scans.proofs.LineLaws.{end-le}
 use Rattle.steps.proofs.StepLaws.{sound}
 use Rattle.steps.proofs.WayLaws.{end-inside, way-taken, way-refused}
 use borrow.Author.Needs.{needs}
@@ -10,7 +10,7 @@ use Rattle.steps.proofs.filed.Statement.{statement}
 use Rattle.steps.proofs.filed.Tie as tie
 use Rattle.steps.proofs.filed.Reads as reads
 use Rattle.steps.proofs.filed.Lts as lts
-use Rattle.fields.proofs.cut_end.Reads as cut-end-reads
+use Rattle.scans.proofs.cut_end.Reads as cut-end-reads
 use Rattle.steps.proofs.State.moved.Reads as stored-reads
 use Rattle.steps.proofs.reason_number.Reads as reason-number-reads
 use Rattle.steps.proofs.store_line.Reads as store-line-reads

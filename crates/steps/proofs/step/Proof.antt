@@ -1,14 +1,14 @@
 use mathlib.Core.Path.{sym}
 use lib.Seq.{length-take-le}
 use denote.Ref.{now}
-use Rattle.fields.proofs.LineLaws.{end-le}
+use Rattle.scans.proofs.LineLaws.{end-le}
 use Rattle.steps.proofs.WayLaws.{sort-is, plain-start, plain-other, way-any, way-header}
 use borrow.Author.Needs.{needs}
 use Rattle.steps.proofs.step.Statement.{statement}
 use Rattle.steps.proofs.step.Tie as tie
 use Rattle.steps.proofs.step.Reads as reads
 use Rattle.steps.proofs.step.Lts as lts
-use Rattle.fields.proofs.line_end.Reads as line-end-reads
+use Rattle.scans.proofs.line_end.Reads as line-end-reads
 use Rattle.steps.proofs.blank.Reads as blank-reads
 use Rattle.headers.proofs.sort_of.Reads as sort-of-reads
 use Rattle.steps.proofs.plain.Reads as plain-reads

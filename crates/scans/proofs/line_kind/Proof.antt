@@ -1,10 +1,10 @@
--- `fields::line_kind` meets its contract. Assumes nothing.
+-- `scans::line_kind` meets its contract. Assumes nothing.
 use denote.Ref.{now}
 use mathlib.Core.Path.{_∙_}
-use Rattle.fields.proofs.LineLaws.{kind-some, kind-none}
+use Rattle.scans.proofs.LineLaws.{kind-some, kind-none}
 use borrow.Author.Needs.{needs}
-use Rattle.fields.proofs.line_kind.Statement.{statement}
-use Rattle.fields.proofs.line_kind.Tie as tie
+use Rattle.scans.proofs.line_kind.Statement.{statement}
+use Rattle.scans.proofs.line_kind.Tie as tie
 
 reach-requires : tie.Need-reach-requires
 reach-requires c κs = search needs

@@ -1,9 +1,9 @@
--- `fields::trimmed` meets its contract. Assumes nothing.
+-- `scans::trimmed` meets its contract. Assumes nothing.
 use denote.Ref.{now}
-use Rattle.fields.proofs.LineLaws.{trim-cut}
+use Rattle.scans.proofs.LineLaws.{trim-cut}
 use borrow.Author.Needs.{needs}
-use Rattle.fields.proofs.trimmed.Statement.{statement}
-use Rattle.fields.proofs.trimmed.Tie as tie
+use Rattle.scans.proofs.trimmed.Statement.{statement}
+use Rattle.scans.proofs.trimmed.Tie as tie
 
 reach-requires : tie.Need-reach-requires
 reach-requires c κs = search needs

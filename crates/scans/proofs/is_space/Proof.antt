@@ -1,11 +1,11 @@
--- `fields::is_space` meets its contract. Assumes nothing.
+-- `scans::is_space` meets its contract. Assumes nothing.
 use borrow.Author.Needs.{needs}
 use mathlib.Core.Path.{sym}
 use mathlib.Core.List.{[], _∷_}
 use Rattle.digits.specs.declared.Class.the-variants.{Space}
 use Rattle.digits.proofs.Classes.{is-class, not-class, above-space}
-use Rattle.fields.proofs.is_space.Statement.{statement}
-use Rattle.fields.proofs.is_space.Tie as tie
+use Rattle.scans.proofs.is_space.Statement.{statement}
+use Rattle.scans.proofs.is_space.Tie as tie
 
 returns : tie.Need-returns
 returns c = sym (above-space (c .before .args .b) (c .if1 .taken))

@@ -8,9 +8,9 @@ use mathlib.Core.List.{List, [], _∷_}
 use lib.ListN.{length}
 use lib.Dec.{eqb}
 use Rattle.letters.specs.Words.{same, begins}
-use Rattle.fields.specs.Lines.{isSpace, startTrimmed, keepByte, endTrimmed, trimmed}
-use Rattle.fields.specs.Scan.{spanLen}
-use Rattle.fields.specs.declared.Kind.the-variants.{Word}
+use Rattle.scans.specs.Lines.{isSpace, startTrimmed, keepByte, endTrimmed, trimmed}
+use Rattle.scans.specs.Scan.{spanLen}
+use Rattle.scans.specs.declared.Kind.the-variants.{Word}
 
 module _ (x y : ℕ) (l v : List ℕ) (h : isSpace y ≡ false) where
   begins-byte : (t : Bool) (k : List ℕ) → isSpace x ≡ t → begins k v ≡ begins l v → begins (keepByte x k) (y ∷ v) ≡ begins (x ∷ l) (y ∷ v)

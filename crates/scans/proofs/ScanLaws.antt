@@ -8,14 +8,10 @@ use mathlib.Core.Path.{_≡_, refl, sym, ap, _∙_}
 use mathlib.Core.Bool.{Bool, true, false, cond, not, _||_, false≢true}
 use mathlib.Core.List.{List, [], _∷_}
 use lib.ListN.{length, take, drop, getD, length-drop, drop-of-length-le}
-use lib.Seq.{drop-cons, drop-drop}
+use lib.Seq.{drop-cons, drop-drop, length-take-le}
 use lib.Dec.{eqb}
-use Rattle.digits.specs.Ends.{wordLen}
-use Rattle.fields.specs.Lines.{isSpace}
-use Rattle.fields.specs.Fields.{part}
-use Rattle.fields.specs.declared.Kind.{Kind}
-use Rattle.fields.specs.declared.Kind.the-variants.{Word}
-use Rattle.fields.specs.Scan.{isKind, spanLen, has, Skips}
+use Rattle.scans.specs.declared.Kind.{Kind}
+use Rattle.scans.specs.Scan.{isKind, spanLen, has, part, Skips}
 
 module _ (k : Kind) (l : List ℕ) (i : ℕ) where
   pub span-on : i < length l → isKind k (getD l i 0) ≡ true → spanLen k (drop i l) ≡ suc (spanLen k (drop (suc i) l))
@@ -50,15 +46,9 @@ span-stop k (b ∷ bs) h = go (isKind k b) refl h (span-stop k bs)
     go true e h f = f (omega arith)
     go false e h f = e
 
--- a field is as long as the number's reader counts
-pub span-counted : (l : List ℕ) → spanLen Word l ≡ wordLen l
-unfolding spanLen wordLen
-span-counted [] = refl
-span-counted (b ∷ bs) = go (isSpace b) (span-counted bs)
-  where
-    go : (t : Bool) → spanLen Word bs ≡ wordLen bs → cond (not t) (suc (spanLen Word bs)) 0 ≡ cond t 0 (suc (wordLen bs))
-    go true e = refl
-    go false e = ap suc e
+-- ---- a part of a text
+pub length-part : (a e : ℕ) (l : List ℕ) → e ≤ length l → length (part a e l) ≡ e - a
+length-part a e l h = length-take-le (e - a) (drop a l) (omega (arith, length-drop a l))
 
 -- ---- a scan for the byte b
 module _ (b : ℕ) where

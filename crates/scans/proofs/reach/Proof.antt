@@ -1,4 +1,4 @@
--- `fields::reach` meets its contract. Assumes nothing.
+-- `scans::reach` meets its contract. Assumes nothing.
 use Prim.Native.Nat.{_+_, _-_}
 use native.Mathlib.Omega.{arith}
 use native.Mathlib.Numerals.{add-one}
@@ -6,10 +6,10 @@ use borrow.Author.Needs.{needs}
 use denote.Ref.{now}
 use mathlib.Core.Path.{_≡_, refl, sym, _∙_}
 use lib.ListN.{length, drop}
-use Rattle.fields.specs.Scan.{spanLen}
-use Rattle.fields.proofs.ScanLaws.{span-on, span-off, span-end}
-use Rattle.fields.proofs.reach.Statement.{statement}
-use Rattle.fields.proofs.reach.Tie as tie
+use Rattle.scans.specs.Scan.{spanLen}
+use Rattle.scans.proofs.ScanLaws.{span-on, span-off, span-end}
+use Rattle.scans.proofs.reach.Statement.{statement}
+use Rattle.scans.proofs.reach.Tie as tie
 
 abbrev Inv-loop : tie.InvT-loop
 Inv-loop l at k i₀ i = i + spanLen k (drop i l) ≡ at + spanLen k (drop at l)

@@ -8,11 +8,11 @@ use lib.ListN.{length, take, drop, getD, length-drop, drop-of-length-le}
 use native.Mathlib.Nat.{le-of-lt}
 use lib.Seq.{drop-cons, drop-drop, drop-length, length-take-le, take-all, take-nil, take-suc, getD-drop}
 use lib.Dec.{eqb}
-use Rattle.fields.specs.Lines.{isSpace, push, chunks, joined, lineLen, startTrimmed, keepByte, endTrimmed, trimmed, kindBy, lineKind, cutOf}
-use Rattle.fields.specs.Scan.{spanLen, Skips}
-use Rattle.fields.specs.declared.Kind.the-variants.{Space, Kept, Line}
-use Rattle.fields.specs.declared.LineKind.the-variants.{Blank}
-use Rattle.fields.proofs.ScanLaws.{span-stop, skip-past}
+use Rattle.scans.specs.Lines.{isSpace, push, chunks, joined, lineLen, startTrimmed, keepByte, endTrimmed, trimmed, kindBy, lineKind, cutOf}
+use Rattle.scans.specs.Scan.{spanLen, Skips}
+use Rattle.scans.specs.declared.Kind.the-variants.{Space, Kept, Line}
+use Rattle.scans.specs.declared.LineKind.the-variants.{Blank}
+use Rattle.scans.proofs.ScanLaws.{span-stop, skip-past}
 
 -- ---- the first line of a text
 -- a line with a line feed, and a last line that lacks it

@@ -1,4 +1,4 @@
--- `fields::block_has` meets its contract. Assumes nothing.
+-- `scans::block_has` meets its contract. Assumes nothing.
 use Prim.Native.Nat.{_-_}
 use native.Mathlib.Omega.{arith}
 use denote.Ref.{now}
@@ -6,10 +6,10 @@ use mathlib.Core.Path.{_≡_, refl, sym, _∙_}
 use mathlib.Core.Logic.{⊎-elim}
 use mathlib.Core.Bool.{_||_}
 use lib.ListN.{drop}
-use Rattle.fields.specs.Scan.{has}
-use Rattle.fields.proofs.ScanLaws.{has-here, has-later, has-end}
-use Rattle.fields.proofs.block_has.Statement.{statement}
-use Rattle.fields.proofs.block_has.Tie as tie
+use Rattle.scans.specs.Scan.{has}
+use Rattle.scans.proofs.ScanLaws.{has-here, has-later, has-end}
+use Rattle.scans.proofs.block_has.Statement.{statement}
+use Rattle.scans.proofs.block_has.Tie as tie
 
 abbrev Inv-loop : tie.InvT-loop
 Inv-loop block b found₀ i₀ found i = (found || has b (drop i block)) ≡ has b block

@@ -5,8 +5,8 @@ use mathlib.Core.List.{List, [], _∷_, _++_}
 use lib.Dec.{eqb}
 use Rattle.digits.specs.Bytes.{is}
 use Rattle.digits.specs.declared.Class.the-variants.{Space}
-use Rattle.fields.specs.declared.LineKind.{LineKind}
-use Rattle.fields.specs.declared.LineKind.the-variants.{Blank, Header, Other}
+use Rattle.scans.specs.declared.LineKind.{LineKind}
+use Rattle.scans.specs.declared.LineKind.the-variants.{Blank, Header, Other}
 
 -- "Whitespace is the six bytes 9 to 13 and 32."
 abbrev pub isSpace : ℕ → Bool

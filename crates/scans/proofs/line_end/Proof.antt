@@ -1,9 +1,9 @@
--- `fields::line_end` meets its contract. Assumes nothing.
+-- `scans::line_end` meets its contract. Assumes nothing.
 use denote.Ref.{now}
-use Rattle.fields.proofs.LineLaws.{end-fed, end-last}
+use Rattle.scans.proofs.LineLaws.{end-fed, end-last}
 use borrow.Author.Needs.{needs}
-use Rattle.fields.proofs.line_end.Statement.{statement}
-use Rattle.fields.proofs.line_end.Tie as tie
+use Rattle.scans.proofs.line_end.Statement.{statement}
+use Rattle.scans.proofs.line_end.Tie as tie
 
 skip-blocks-requires : tie.Need-skip-blocks-requires
 skip-blocks-requires c κs = search needs

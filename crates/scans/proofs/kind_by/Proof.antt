@@ -1,8 +1,8 @@
--- `fields::kind_by` meets its contract. Assumes nothing.
+-- `scans::kind_by` meets its contract. Assumes nothing.
 use native.Mathlib.Omega.{arith}
 use borrow.Author.Tests.{eq-eqb, ne-eqb}
-use Rattle.fields.proofs.kind_by.Statement.{statement}
-use Rattle.fields.proofs.kind_by.Tie as tie
+use Rattle.scans.proofs.kind_by.Statement.{statement}
+use Rattle.scans.proofs.kind_by.Tie as tie
 
 returns : tie.Need-returns
 returns c = simp (eq-eqb (c .before .args .b) 59 (omega arith))

@@ -1,4 +1,4 @@
--- `fields::trim_end` meets its contract. Assumes nothing.
+-- `scans::trim_end` meets its contract. Assumes nothing.
 use Prim.Native.Nat.{_≤_}
 use native.Mathlib.Omega.{arith}
 use borrow.Author.Needs.{needs}
@@ -6,10 +6,10 @@ use denote.Ref.{now}
 use mathlib.Core.Path.{_≡_, sym, ap, _∙_}
 use lib.ListN.{length, take}
 use lib.Seq.{take-length}
-use Rattle.fields.specs.Lines.{endTrimmed}
-use Rattle.fields.proofs.LineLaws.{trim-more, trim-stop, trim-nothing}
-use Rattle.fields.proofs.trim_end.Statement.{statement}
-use Rattle.fields.proofs.trim_end.Tie as tie
+use Rattle.scans.specs.Lines.{endTrimmed}
+use Rattle.scans.proofs.LineLaws.{trim-more, trim-stop, trim-nothing}
+use Rattle.scans.proofs.trim_end.Statement.{statement}
+use Rattle.scans.proofs.trim_end.Tie as tie
 
 abbrev Inv-loop : tie.InvT-loop
 Inv-loop l e₀ e = (e ≤ length l) × (endTrimmed (take e l) ≡ endTrimmed l)

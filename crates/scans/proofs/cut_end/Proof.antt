@@ -1,9 +1,9 @@
--- `fields::cut_end` meets its contract. Assumes nothing.
+-- `scans::cut_end` meets its contract. Assumes nothing.
 use mathlib.Core.Path.{_∙_}
-use Rattle.fields.proofs.LineLaws.{cut-past}
+use Rattle.scans.proofs.LineLaws.{cut-past}
 use borrow.Author.Needs.{needs}
-use Rattle.fields.proofs.cut_end.Statement.{statement}
-use Rattle.fields.proofs.cut_end.Tie as tie
+use Rattle.scans.proofs.cut_end.Statement.{statement}
+use Rattle.scans.proofs.cut_end.Tie as tie
 
 skip-blocks-requires : tie.Need-skip-blocks-requires
 skip-blocks-requires c κs = search needs

@@ -1,15 +1,14 @@
--- `fields::skip_blocks` meets its contract. Assumes nothing.
+-- `scans::skip_blocks` meets its contract. Assumes nothing.
 use Prim.Native.Nat.{_+_, _-_, _≤_}
 use native.Mathlib.Omega.{arith}
 use borrow.Author.Needs.{needs}
 use denote.Ref.{now}
 use mathlib.Core.Path.{sym, _∙_}
 use lib.ListN.{length}
-use Rattle.fields.specs.Scan.{Skips}
-use Rattle.fields.proofs.FieldLaws.{length-part}
-use Rattle.fields.proofs.ScanLaws.{skip-here, skip-on}
-use Rattle.fields.proofs.skip_blocks.Statement.{statement}
-use Rattle.fields.proofs.skip_blocks.Tie as tie
+use Rattle.scans.specs.Scan.{Skips}
+use Rattle.scans.proofs.ScanLaws.{length-part, skip-here, skip-on}
+use Rattle.scans.proofs.skip_blocks.Statement.{statement}
+use Rattle.scans.proofs.skip_blocks.Tie as tie
 
 abbrev Inv-loop : tie.InvT-loop
 Inv-loop text from b n i₀ i = Skips text from b i × (i ≤ length text)

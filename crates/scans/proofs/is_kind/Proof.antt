@@ -1,9 +1,9 @@
--- `fields::is_kind` meets its contract. Assumes nothing.
+-- `scans::is_kind` meets its contract. Assumes nothing.
 use borrow.Author.Needs.{needs}
 use mathlib.Core.Path.{ap}
 use mathlib.Core.Bool.{not}
-use Rattle.fields.proofs.is_kind.Statement.{statement}
-use Rattle.fields.proofs.is_kind.Tie as tie
+use Rattle.scans.proofs.is_kind.Statement.{statement}
+use Rattle.scans.proofs.is_kind.Tie as tie
 
 enum-told : tie.Need-enum-told
 enum-told c = search needs
