@@ -1,6 +1,6 @@
 -- What a line of JUNCTIONS, RESERVOIRS or TANKS does, from what was read of it. Assumes nothing.
 use Prim.Native.Nat.{ℕ}
-use mathlib.Core.Path.{_≡_, refl, ap, _∙_, subst}
+use mathlib.Core.Path.{_≡_, ap, _∙_, subst}
 use mathlib.Core.List.{List}
 use lib.ListN.{take}
 use Rattle.fields.specs.Fields.{Name}

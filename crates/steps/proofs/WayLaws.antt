@@ -30,7 +30,8 @@ use Rattle.tables.specs.declared.Kept.{Kept}
 use Rattle.tables.specs.declared.Kept.the-variants.{Stored, Refused}
 use Rattle.tables.proofs.AfterLaws.{after-stored, after-refused}
 use Rattle.headers.specs.Own.{sortIn, groupFields}
-use Rattle.steps.specs.Held.{Model, passesOver, lineStep, Stands, Fits, Plain, Stepped, Goes, ownLine, movedTo, joinedTo, shutTo}
+use Rattle.sections.specs.Storing.{passesOver, lineStep}
+use Rattle.steps.specs.Held.{Model, Stands, Fits, Plain, Stepped, Goes, ownLine, movedTo, joinedTo, shutTo}
 use Rattle.steps.specs.declared.State.{State}
 use Rattle.steps.specs.declared.Turn.{Turn}
 use Rattle.headers.specs.declared.Sort.{Sort}
@@ -41,10 +42,6 @@ use Rattle.steps.proofs.StepLaws.{never, still-step, joins-step, taken-
 pub both : (a b : Bool) → cond a b false ≡ true → (a ≡ true) × (b ≡ true)
 both true b z = (refl, z)
 both false b z = (z, never z)
-
--- a line that stores nothing
-pub unchanged : {text w : List ℕ} {f : List Float} {m : Network} {s : Counts} → Holds text m s w f → After text (good m) (Stored s) w f w f
-unchanged h = (ap Stored (h .counts), record { counts = refl; words = h .words; numbers = h .numbers })
 
 -- ---- what the definitions say of a line
 becomes : {text w : List ℕ} {f : List Float} {s : State} {l : Line} {m : Model} {o o′ : Outcome Section Network} {r : Turn} → o ≡ o′ → Stepped text s l m o′ r w f → Stepped text s l m o r w f

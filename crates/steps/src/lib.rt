@@ -1,18 +1,17 @@
 // One line of a text: what it does to a reading, and to the tables that the caller lends.
 ghost use mathlib.Core.Path.{_≡_};
 ghost use mathlib.Core.Bool.{true, false, cond};
-ghost use Prim.Native.Nat.{_+_, _≤_, _<_};
-ghost use lib.ListN.{length, take, drop, set};
-ghost use Rattle.fields.specs.Fields.{fieldsAt};
+ghost use Prim.Native.Nat.{_+_, _<_};
+ghost use lib.ListN.{drop};
 ghost use Rattle.scans.specs.Lines.{lineLen};
 ghost use Rattle.lines.specs.Reader.{act, step, empty, start, other, closes, shut};
 ghost use Rattle.lines.specs.Text.{bodyAt};
 ghost use Rattle.scope.specs.Sections.{isRules};
 ghost use Rattle.scope.specs.Answers.{reasonNo};
-ghost use Rattle.scope.specs.Records.{Network, noNetwork, countsOf};
+ghost use Rattle.scope.specs.Records.{noNetwork, countsOf};
 ghost use Rattle.scope.specs.Lines.{sortOf, inp};
-ghost use Rattle.tables.specs.Holding.{Holds, Sound, After};
-ghost use Rattle.steps.specs.Held.{passesOver, lineStep, Fits, Plain, Goes, ownLine, movedTo, joinedTo, shutTo, newState};
+ghost use Rattle.sections.specs.Storing.{passesOver};
+ghost use Rattle.steps.specs.Held.{Fits, Plain, Goes, ownLine, movedTo, joinedTo, shutTo, newState};
 use headers::Sort;
 use scope::Counts;
 use scope::Reason;
@@ -177,38 +176,6 @@ impl State {
 
 // ---- one line
 
-// Hands a line to the reader of its section.
-fn store_line(
-    section: Section,
-    text: &[u8],
-    at: usize,
-    end: usize,
-    s: Counts,
-    words: &mut [u64],
-    numbers: &mut [f64],
-) -> Kept
-    requires { ⌜ Sound (now text) s (now words) (now numbers) × (end ≤ length (now text)) ⌝ }
-    ensures { λ r. ⌜ ((m : Network) → Holds (now (text .entry)) m s (now (words .entry)) (now (numbers .entry))
-        → After (now (text .entry)) (lineStep section (fieldsAt (take end (now (text .entry))) at) m) r (now (words .entry)) (now (numbers .entry)) (now (words .exit)) (now (numbers .exit))) ⌝ }
-{
-    match section {
-        Section::Junctions => nodes::junction_line(text, at, end, s, words, numbers),
-        Section::Reservoirs => nodes::reservoir_line(text, at, end, s, words, numbers),
-        Section::Tanks => nodes::tank_line(text, at, end, s, words, numbers),
-        Section::Pipes => links::pipe_line(text, at, end, s, words, numbers),
-        Section::Pumps => links::pump_line(text, at, end, s, words, numbers),
-        Section::Valves => links::valve_line(text, at, end, s, words, numbers),
-        Section::Curves => curves::curve_line(text, at, end, s, words, numbers),
-        Section::Patterns => patterns::pattern_line(text, at, end, s, words, numbers),
-        Section::Demands => demands::demand_line(text, at, end, s, words, numbers),
-        Section::Emitters => places::emitter_line(text, at, end, s, words, numbers),
-        Section::Coordinates => places::coordinates_line(text, at, end, s, words, numbers),
-        Section::Times => timing::times_line(text, at, end, s, words, numbers),
-        Section::Rules => Kept::Stored(s),
-        Section::Passed => Kept::Stored(s),
-    }
-}
-
 // The class of the line that closes a group: the group's, or blank.
 fn own_class(dropped: bool, k: u8) -> u8
     ensures { λ r. ⌜ r ≡ cond dropped k 1 ⌝ }
@@ -276,7 +243,7 @@ fn filed(text: &[u8], s: State, e: usize, words: &mut [u64], numbers: &mut [f64]
     let section = s.section;
     let counts = s.counts;
     let end = scans::cut_end(&text[..e], at);
-    let k = store_line(section, text, at, end, counts, words, numbers);
+    let k = sections::store_line(section, text, at, end, counts, words, numbers);
     match k {
         Kept::Stored(c) => Turn {
             state: s.moved(section, c, e),
@@ -295,27 +262,6 @@ fn filed(text: &[u8], s: State, e: usize, words: &mut [u64], numbers: &mut [f64]
     }
 }
 
-fn passes_over(s: Section) -> bool
-    ensures { λ r. ⌜ r ≡ passesOver s ⌝ }
-{
-    match s {
-        Section::Junctions => false,
-        Section::Reservoirs => false,
-        Section::Tanks => false,
-        Section::Pipes => false,
-        Section::Pumps => false,
-        Section::Valves => false,
-        Section::Curves => false,
-        Section::Patterns => false,
-        Section::Demands => false,
-        Section::Emitters => false,
-        Section::Coordinates => false,
-        Section::Times => false,
-        Section::Rules => false,
-        Section::Passed => true,
-    }
-}
-
 // A line that is not blank, no header, and closes nothing.
 fn plain(text: &[u8], s: State, e: usize, words: &mut [u64], numbers: &mut [f64]) -> Turn
     requires { ⌜ Fits (now text) s (now words) (now numbers) × (e ≡ s .at + lineLen (drop (s .at) (now text))) × Plain (sortOf (bodyAt (now text) (s .at))) ⌝ }
@@ -331,7 +277,7 @@ fn plain(text: &[u8], s: State, e: usize, words: &mut [u64], numbers: &mut [f64]
             piece: 0,
         };
     }
-    if passes_over(section) {
+    if sections::passes_over(section) {
         return still(s, section, e, PASSED);
     }
     filed(text, s, e, words, numbers)

@@ -13,7 +13,7 @@ use Rattle.steps.proofs.filed.Lts as lts
 use Rattle.scans.proofs.cut_end.Reads as cut-end-reads
 use Rattle.steps.proofs.State.moved.Reads as stored-reads
 use Rattle.steps.proofs.reason_number.Reads as reason-number-reads
-use Rattle.steps.proofs.store_line.Reads as store-line-reads
+use Rattle.sections.proofs.store_line.Reads as store-line-reads
 
 slice-aggregate-cut-end : tie.Need-slice-aggregate-cut-end
 slice-aggregate-cut-end c = sym (length-take-le (c .before .before .before .before .before .args .e) (now (c .before .before .before .before .before .args .text)) (end-le (now (c .before .before .before .before .before .args .text)) (c .before .before .before .before .before .args .s .at) (c .before .before .before .before .before .args .e) (c .before .before .before .before .before .pre .0 .more) (c .before .before .before .before .before .pre .1)))

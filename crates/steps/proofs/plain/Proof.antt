@@ -8,7 +8,7 @@ use Rattle.steps.proofs.plain.Lts as lts
 use Rattle.steps.proofs.State.joined.Reads as joined-reads
 use Rattle.steps.proofs.filed.Reads as filed-reads
 use Rattle.headers.proofs.in_rules.Reads as in-rules-reads
-use Rattle.steps.proofs.passes_over.Reads as passes-over-reads
+use Rattle.sections.proofs.passes_over.Reads as passes-over-reads
 use Rattle.steps.proofs.still.Reads as still-reads
 
 in-rules-requires : tie.Need-in-rules-requires

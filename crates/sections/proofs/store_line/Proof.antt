@@ -1,11 +1,17 @@
-use Rattle.steps.proofs.WayLaws.{unchanged}
-use mathlib.Core.Path.{_≡_, refl, ap}
+use Prim.Native.Nat.{ℕ}
+use mathlib.Core.Path.{refl, ap}
+use mathlib.Core.List.{List}
+use lib.Ieee.{Float}
+use Rattle.scope.specs.declared.Counts.{Counts}
+use Rattle.scope.specs.Records.{Network}
+use Rattle.scope.specs.Values.{good}
+use Rattle.tables.specs.Holding.{Holds, After}
 use Rattle.tables.specs.declared.Kept.the-variants.{Stored}
 use borrow.Author.Needs.{needs}
-use Rattle.steps.proofs.store_line.Statement.{statement}
-use Rattle.steps.proofs.store_line.Tie as tie
-use Rattle.steps.proofs.store_line.Reads as reads
-use Rattle.steps.proofs.store_line.Lts as lts
+use Rattle.sections.proofs.store_line.Statement.{statement}
+use Rattle.sections.proofs.store_line.Tie as tie
+use Rattle.sections.proofs.store_line.Reads as reads
+use Rattle.sections.proofs.store_line.Lts as lts
 use Rattle.links.proofs.pipe_line.Reads as pipe-line-reads
 use Rattle.links.proofs.pump_line.Reads as pump-line-reads
 use Rattle.links.proofs.valve_line.Reads as valve-line-reads
@@ -18,6 +24,10 @@ use Rattle.curves.proofs.curve_line.Reads as curve-line-reads
 use Rattle.demands.proofs.demand_line.Reads as demand-line-reads
 use Rattle.patterns.proofs.pattern_line.Reads as pattern-line-reads
 use Rattle.timing.proofs.times_line.Reads as times-line-reads
+
+-- a line that stores nothing
+unchanged : {text w : List ℕ} {f : List Float} {m : Network} {s : Counts} → Holds text m s w f → After text (good m) (Stored s) w f w f
+unchanged h = (ap Stored (h .counts), record { counts = refl; words = h .words; numbers = h .numbers })
 
 enum-told : tie.Need-enum-told
 enum-told c = search needs
