@@ -7,8 +7,8 @@ use Rattle.surveying.proofs.read_survey.Statement.{statement}
 use Rattle.surveying.proofs.read_survey.Tie as tie
 use Rattle.surveying.proofs.read_survey.Reads as reads
 use Rattle.surveying.proofs.read_survey.Lts as lts
-use Rattle.surveying.proofs.no_survey.Reads as no-survey-reads
-use Rattle.surveying.proofs.survey_in.Reads as survey-in-reads
+use Rattle.sweeping.proofs.no_survey.Reads as no-survey-reads
+use Rattle.sweeping.proofs.survey_in.Reads as survey-in-reads
 use Rattle.surveying.proofs.survey_small.Reads as survey-small-reads
 use Rattle.reading.proofs.write_counts.Reads as write-counts-reads
 

@@ -8,16 +8,16 @@ use Rattle.scope.specs.Reading.{marksOf}
 use Rattle.tables.proofs.AfterLaws.{holds-words, holds-numbers}
 use Rattle.reading.proofs.StrictLaws.{fits}
 use Rattle.steps.proofs.StepLaws.{sound}
-use Rattle.surveying.proofs.SurveyLaws.{Swept, sweep, onward, class-asks, reason-asks, line-asks, swept-on, overseen}
+use Rattle.sweeping.proofs.SurveyLaws.{Swept, sweep, onward, class-asks, reason-asks, line-asks, swept-on, overseen}
 use borrow.Author.Needs.{needs}
-use Rattle.surveying.proofs.go_over.Statement.{statement}
-use Rattle.surveying.proofs.go_over.Tie as tie
-use Rattle.surveying.proofs.go_over.Reads as reads
-use Rattle.surveying.proofs.go_over.Lts as lts
+use Rattle.sweeping.proofs.go_over.Statement.{statement}
+use Rattle.sweeping.proofs.go_over.Tie as tie
+use Rattle.sweeping.proofs.go_over.Reads as reads
+use Rattle.sweeping.proofs.go_over.Lts as lts
 use Rattle.steps.proofs.State.new.Reads as new-reads
-use Rattle.surveying.proofs.counts_of.Reads as counts-of-reads
-use Rattle.surveying.proofs.mark_class.Reads as mark-class-reads
-use Rattle.surveying.proofs.mark_reason.Reads as mark-reason-reads
+use Rattle.marks.proofs.counts_of.Reads as counts-of-reads
+use Rattle.marks.proofs.mark_class.Reads as mark-class-reads
+use Rattle.marks.proofs.mark_reason.Reads as mark-reason-reads
 use Rattle.resolving.proofs.resolve_pattern_indices.Reads as resolve-pattern-indices-reads
 use Rattle.steps.proofs.step.Reads as step-reads
 

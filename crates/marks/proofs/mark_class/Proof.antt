@@ -3,11 +3,11 @@ use borrow.Author.Tests.{eq-eqb, ne-eqb}
 use lib.ListN.{set}
 use mathlib.Core.Path.{_≡_, refl, sym, ap, _∙_}
 use borrow.Author.Needs.{needs}
-use Rattle.surveying.proofs.mark_class.Statement.{statement}
-use Rattle.surveying.proofs.mark_class.Tie as tie
-use Rattle.surveying.proofs.mark_class.Reads as reads
-use Rattle.surveying.proofs.mark_class.Lts as lts
-use Rattle.surveying.proofs.refill.Reads as refill-reads
+use Rattle.marks.proofs.mark_class.Statement.{statement}
+use Rattle.marks.proofs.mark_class.Tie as tie
+use Rattle.marks.proofs.mark_class.Reads as reads
+use Rattle.marks.proofs.mark_class.Lts as lts
+use Rattle.marks.proofs.refill.Reads as refill-reads
 
 slice-write-classes : tie.Need-slice-write-classes
 slice-write-classes c = search needs

@@ -1,8 +1,8 @@
 use borrow.Author.Tests.{eq-eqb, ne-eqb}
-use Rattle.surveying.proofs.one.Statement.{statement}
-use Rattle.surveying.proofs.one.Tie as tie
-use Rattle.surveying.proofs.one.Reads as reads
-use Rattle.surveying.proofs.one.Lts as lts
+use Rattle.marks.proofs.one.Statement.{statement}
+use Rattle.marks.proofs.one.Tie as tie
+use Rattle.marks.proofs.one.Reads as reads
+use Rattle.marks.proofs.one.Lts as lts
 
 returns : tie.Need-returns
 returns c = rw (eq-eqb (c .before .args .b) (c .before .args .k) (c .if1 .taken))

@@ -1,12 +1,12 @@
 use mathlib.Core.Path.{sym, _∙_, ap}
-use Rattle.surveying.specs.Counted.{counted}
+use Rattle.marks.specs.Counted.{counted}
 use borrow.Author.Needs.{needs}
-use Rattle.surveying.proofs.counts_of.Statement.{statement}
-use Rattle.surveying.proofs.counts_of.Tie as tie
-use Rattle.surveying.proofs.counts_of.Reads as reads
-use Rattle.surveying.proofs.counts_of.Lts as lts
+use Rattle.marks.proofs.counts_of.Statement.{statement}
+use Rattle.marks.proofs.counts_of.Tie as tie
+use Rattle.marks.proofs.counts_of.Reads as reads
+use Rattle.marks.proofs.counts_of.Lts as lts
 use Rattle.letters.proofs.cut.Reads as cut-reads
-use Rattle.surveying.proofs.count.Reads as count-reads
+use Rattle.marks.proofs.count.Reads as count-reads
 use Rattle.lines.specs.Tables.{countIn}
 
 cut-requires : tie.Need-cut-requires

@@ -24,7 +24,7 @@ use Rattle.scope.specs.Lines.{inp}
 use Rattle.scope.specs.Reading.{atStart, allLow, byText, marksOf, surveyed, surveyOf, noSurvey, surveyNetwork, surveyMarked}
 use Rattle.tables.specs.Holding.{Holds}
 use Rattle.steps.specs.Held.{Model, Stands, Stepped, Goes, newState}
-use Rattle.surveying.specs.Counted.{counted}
+use Rattle.marks.specs.Counted.{counted}
 use Rattle.steps.specs.declared.State.{State}
 use Rattle.steps.specs.declared.Turn.{Turn}
 use Rattle.reading.proofs.StrictLaws.{start-stands, further}

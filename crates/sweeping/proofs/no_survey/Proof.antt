@@ -1,8 +1,8 @@
 use borrow.Author.Needs.{needs}
-use Rattle.surveying.proofs.no_survey.Statement.{statement}
-use Rattle.surveying.proofs.no_survey.Tie as tie
-use Rattle.surveying.proofs.no_survey.Reads as reads
-use Rattle.surveying.proofs.no_survey.Lts as lts
+use Rattle.sweeping.proofs.no_survey.Statement.{statement}
+use Rattle.sweeping.proofs.no_survey.Tie as tie
+use Rattle.sweeping.proofs.no_survey.Reads as reads
+use Rattle.sweeping.proofs.no_survey.Lts as lts
 use Rattle.steps.proofs.reason_number.Reads as reason-number-reads
 
 reason-number-requires : tie.Need-reason-number-requires

@@ -4,11 +4,11 @@ use borrow.Author.Needs.{needs}
 use denote.Ref.{now}
 use mathlib.Core.Path.{_≡_, refl, sym, ap, _∙_}
 use lib.ListN.{length, drop, set, getD, length-set}
-use Rattle.surveying.proofs.refill.Statement.{statement}
-use Rattle.surveying.proofs.refill.Tie as tie
-use Rattle.surveying.proofs.refill.Reads as reads
-use Rattle.surveying.proofs.refill.Lts as lts
-use Rattle.surveying.proofs.swap.Reads as swap-reads
+use Rattle.marks.proofs.refill.Statement.{statement}
+use Rattle.marks.proofs.refill.Tie as tie
+use Rattle.marks.proofs.refill.Reads as reads
+use Rattle.marks.proofs.refill.Lts as lts
+use Rattle.marks.proofs.swap.Reads as swap-reads
 use Rattle.lines.specs.Tables.{refilled, swapped}
 use Rattle.lines.proofs.Marks.{refilled-none, refilled-more}
 

@@ -1,8 +1,8 @@
 use borrow.Author.Tests.{eq-eqb, ne-eqb}
-use Rattle.surveying.proofs.swap.Statement.{statement}
-use Rattle.surveying.proofs.swap.Tie as tie
-use Rattle.surveying.proofs.swap.Reads as reads
-use Rattle.surveying.proofs.swap.Lts as lts
+use Rattle.marks.proofs.swap.Statement.{statement}
+use Rattle.marks.proofs.swap.Tie as tie
+use Rattle.marks.proofs.swap.Reads as reads
+use Rattle.marks.proofs.swap.Lts as lts
 
 returns : tie.Need-returns
 returns c = rw (eq-eqb (c .before .args .b) 8 (c .if1 .taken))

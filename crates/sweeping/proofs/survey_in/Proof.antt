@@ -3,16 +3,16 @@ use denote.Ref.{now}
 use mathlib.Core.Path.{refl, sym, ap, _∙_}
 use lib.ListN.{length, replicate}
 use Rattle.reading.proofs.StrictLaws.{cleared}
-use Rattle.surveying.proofs.SurveyLaws.{in-long, in-high, in-all}
+use Rattle.sweeping.proofs.SurveyLaws.{in-long, in-high, in-all}
 use borrow.Author.Needs.{needs}
-use Rattle.surveying.proofs.survey_in.Statement.{statement}
-use Rattle.surveying.proofs.survey_in.Tie as tie
-use Rattle.surveying.proofs.survey_in.Reads as reads
-use Rattle.surveying.proofs.survey_in.Lts as lts
+use Rattle.sweeping.proofs.survey_in.Statement.{statement}
+use Rattle.sweeping.proofs.survey_in.Tie as tie
+use Rattle.sweeping.proofs.survey_in.Reads as reads
+use Rattle.sweeping.proofs.survey_in.Lts as lts
 use Rattle.reading.proofs.all_low.Reads as all-low-reads
-use Rattle.surveying.proofs.clear_bytes.Reads as clear-bytes-reads
-use Rattle.surveying.proofs.go_over.Reads as go-over-reads
-use Rattle.surveying.proofs.unsurveyed.Reads as unsurveyed-reads
+use Rattle.marks.proofs.clear_bytes.Reads as clear-bytes-reads
+use Rattle.sweeping.proofs.go_over.Reads as go-over-reads
+use Rattle.sweeping.proofs.unsurveyed.Reads as unsurveyed-reads
 use Rattle.tables.proofs.clear_numbers.Reads as clear-numbers-reads
 use Rattle.tables.proofs.clear_words.Reads as clear-words-reads
 

@@ -8,10 +8,10 @@ use mathlib.Core.List.{List, _++_, append-nil}
 use denote.Ref.{now}
 use lib.ListN.{length, drop, replicate, length-set}
 use lib.Seq.{drop-length}
-use Rattle.surveying.proofs.clear_bytes.Statement.{statement}
-use Rattle.surveying.proofs.clear_bytes.Tie as tie
-use Rattle.surveying.proofs.clear_bytes.Reads as reads
-use Rattle.surveying.proofs.clear_bytes.Lts as lts
+use Rattle.marks.proofs.clear_bytes.Statement.{statement}
+use Rattle.marks.proofs.clear_bytes.Tie as tie
+use Rattle.marks.proofs.clear_bytes.Reads as reads
+use Rattle.marks.proofs.clear_bytes.Lts as lts
 
 abbrev Inv-loop : tie.InvT-loop
 Inv-loop bytes₀ i₀ bytes i = (i ≤ length bytes₀) × (length bytes ≡ length bytes₀) × (bytes ≡ replicate i 0 ++ drop i bytes₀)

@@ -5,11 +5,11 @@ use borrow.Author.Needs.{needs}
 use denote.Ref.{now}
 use mathlib.Core.Path.{_≡_, refl, sym, ap, _∙_}
 use lib.ListN.{length, drop, length-drop}
-use Rattle.surveying.proofs.count.Statement.{statement}
-use Rattle.surveying.proofs.count.Tie as tie
-use Rattle.surveying.proofs.count.Reads as reads
-use Rattle.surveying.proofs.count.Lts as lts
-use Rattle.surveying.proofs.one.Reads as one-reads
+use Rattle.marks.proofs.count.Statement.{statement}
+use Rattle.marks.proofs.count.Tie as tie
+use Rattle.marks.proofs.count.Reads as reads
+use Rattle.marks.proofs.count.Lts as lts
+use Rattle.marks.proofs.one.Reads as one-reads
 use Rattle.lines.specs.Tables.{countIn}
 use Rattle.lines.proofs.Marks.{count-at, count-end, count-le}
 

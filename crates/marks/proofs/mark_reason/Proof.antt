@@ -2,10 +2,10 @@ use native.Mathlib.Omega.{arith}
 use borrow.Author.Tests.{eq-eqb, ne-eqb}
 use mathlib.Core.Path.{_≡_, refl, sym, ap, _∙_}
 use borrow.Author.Needs.{needs}
-use Rattle.surveying.proofs.mark_reason.Statement.{statement}
-use Rattle.surveying.proofs.mark_reason.Tie as tie
-use Rattle.surveying.proofs.mark_reason.Reads as reads
-use Rattle.surveying.proofs.mark_reason.Lts as lts
+use Rattle.marks.proofs.mark_reason.Statement.{statement}
+use Rattle.marks.proofs.mark_reason.Tie as tie
+use Rattle.marks.proofs.mark_reason.Reads as reads
+use Rattle.marks.proofs.mark_reason.Lts as lts
 
 returns : tie.Need-returns
 returns c = rw (eq-eqb (c .before .args .reason) 0 (c .if1 .taken))

@@ -1,0 +1,102 @@
+// Goes over every line of a text, whatever is refused, into tables that are just as long as their room.
+ghost use mathlib.Core.Path.{_≡_};
+ghost use Prim.Native.Nat.{_≤_};
+ghost use lib.ListN.{length, replicate};
+ghost use Rattle.lines.specs.Tables.{codeOf, reasonIn, marksIn};
+ghost use Rattle.scope.specs.Sections.{roomLines};
+ghost use Rattle.scope.specs.Answers.{reasonNo};
+ghost use Rattle.scope.specs.Records.{noNetwork, countsOf};
+ghost use Rattle.scope.specs.Tables.{recordWords, roomNumbers};
+ghost use Rattle.scope.specs.Reading.{byText, marksOf, surveyed, surveyOf, noSurvey, surveyNetwork, surveyMarked};
+ghost use Rattle.tables.specs.Holding.{Holds};
+use scope::Counts;
+use scope::Reason;
+use scope::Survey;
+use steps::State;
+
+// What a survey gives beside the tables: the answer, and how many records they hold.
+pub struct Surveyed {
+    pub survey: Survey,
+    pub counts: Counts,
+}
+
+pub fn no_survey(why: Reason) -> Survey
+    ensures { λ r. ⌜ r ≡ noSurvey (reasonNo why) ⌝ }
+{
+    Survey {
+        number: steps::reason_number(why),
+        lines: 0,
+        blank: 0,
+        header: 0,
+        passed: 0,
+        taken: 0,
+        refused: 0,
+        ruletaken: 0,
+        rulerefused: 0,
+        ruleopen: 0,
+    }
+}
+
+fn unsurveyed(why: Reason) -> Surveyed
+    ensures { λ r. ⌜ (r .survey ≡ noSurvey (reasonNo why)) × (r .counts ≡ countsOf noNetwork) ⌝ }
+{
+    let survey = no_survey(why);
+    let counts = steps::no_counts();
+    Surveyed { survey, counts }
+}
+
+// Every line, whatever is refused.
+fn go_over(
+    text: &[u8],
+    words: &mut [u64],
+    numbers: &mut [f64],
+    classes: &mut [u8],
+    reasons: &mut [u8],
+) -> Surveyed
+    requires { ⌜ (length (now text) ≤ 65536) × Holds (now text) noNetwork (countsOf noNetwork) (now words) (now numbers)
+        × (length (now classes) ≡ roomLines) × (length (now reasons) ≡ roomLines)
+        × (now classes ≡ replicate (length (now classes)) 0) × (now reasons ≡ replicate (length (now reasons)) 0) ⌝ }
+    ensures { λ r. ⌜ (r .survey ≡ surveyOf (now (text .entry)))
+        × Holds (now (text .entry)) (surveyed (now (text .entry))) (r .counts) (now (words .exit)) (now (numbers .exit))
+        × (now (classes .exit) ≡ marksIn codeOf roomLines (marksOf (now (text .entry))))
+        × (now (reasons .exit) ≡ marksIn reasonIn roomLines (marksOf (now (text .entry)))) ⌝ }
+{
+    let mut s = State::new();
+    while s.at < text.len() {
+        let t = steps::step(text, s, words, numbers);
+        marks::mark_class(classes, t.piece, s.line, t.closed, t.class);
+        marks::mark_reason(reasons, t.piece, t.reason);
+        s = t.state;
+    }
+    let counts = s.counts;
+    resolving::resolve_pattern_indices(text, counts, words);
+    let survey = marks::counts_of(classes, s.line);
+    Surveyed { survey, counts }
+}
+
+// A survey into tables that are just as long as their room.
+pub fn survey_in(
+    text: &[u8],
+    words: &mut [u64],
+    numbers: &mut [f64],
+    classes: &mut [u8],
+    reasons: &mut [u8],
+) -> Surveyed
+    requires { ⌜ (length (now words) ≡ recordWords) × (length (now numbers) ≡ roomNumbers) × (length (now classes) ≡ roomLines) × (length (now reasons) ≡ roomLines) ⌝ }
+    ensures { λ r. ⌜ (r .survey ≡ byText (now (text .entry)) (noSurvey 20) (noSurvey 21) (surveyOf (now (text .entry))))
+        × Holds (now (text .entry)) (surveyNetwork (now (text .entry))) (r .counts) (now (words .exit)) (now (numbers .exit))
+        × (now (classes .exit) ≡ marksIn codeOf roomLines (surveyMarked (now (text .entry))))
+        × (now (reasons .exit) ≡ marksIn reasonIn roomLines (surveyMarked (now (text .entry)))) ⌝ }
+{
+    tables::clear_words(words);
+    tables::clear_numbers(numbers);
+    marks::clear_bytes(classes);
+    marks::clear_bytes(reasons);
+    if reading::ROOM_TEXT < text.len() {
+        return unsurveyed(Reason::TooLong);
+    }
+    if reading::all_low(text) {
+        return go_over(text, words, numbers, classes, reasons);
+    }
+    unsurveyed(Reason::HighByte)
+}
