@@ -29,11 +29,11 @@ use Rattle.moves.specs.Moves.{closes, opens, activates, sets, chosen, on
 abbrev moves : ℕ → ℕ → ℕ → ℕ → Moves
 moves a b c d = record { closes = a; opens = b; activates = c; sets = d }
 
-moves-eq : {a b c d a′ b′ c′ d′ : ℕ} → a ≡ a′ → b ≡ b′ → c ≡ c′ → d ≡ d′ → moves a b c d ≡ moves a′ b′ c′ d′
+pub moves-eq : {a b c d a′ b′ c′ d′ : ℕ} → a ≡ a′ → b ≡ b′ → c ≡ c′ → d ≡ d′ → moves a b c d ≡ moves a′ b′ c′ d′
 moves-eq p q r s = cc
 
 -- ---- one clause more
-how-many-append : (asked : Action → Bool) (xs ys : List Clause) → howMany asked (xs ++ ys) ≡ howMany asked xs + howMany asked ys
+pub how-many-append : (asked : Action → Bool) (xs ys : List Clause) → howMany asked (xs ++ ys) ≡ howMany asked xs + howMany asked ys
 unfolding howMany
 how-many-append asked [] ys = omega arith
 how-many-append asked (condition c ∷ xs) ys = how-many-append asked xs ys

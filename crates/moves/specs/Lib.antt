@@ -1,2 +1,3 @@
--- What the contracts of this crate cite.
+-- What the contracts of this crate cite; and the sums of the crew sheet.
 pub mod Moves
+pub mod Sums
