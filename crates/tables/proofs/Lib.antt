@@ -8,6 +8,7 @@ pub mod HoldLaws
 pub mod EmptyLaws
 pub mod ReadLaws
 pub mod ClearLaws
+pub mod KeyLaws
 pub mod LookLaws
 pub mod WalkLaws
 pub mod StartLaws

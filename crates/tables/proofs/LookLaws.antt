@@ -10,12 +10,13 @@ use lib.ListN.{length, take, drop, getD, length-take, drop-of-length-le}
 use lib.Seq.{drop-cons}
 use Rattle.fields.specs.Fields.{Name, part}
 use Rattle.letters.specs.Words.{same}
-use Rattle.letters.proofs.WordLaws.{same-equal}
+use Rattle.letters.proofs.WordLaws.{same-equal, same-iff}
 use Rattle.scope.specs.Records.{lookupFrom, lookup, noName}
 use Rattle.scope.specs.Tables.{packed, keyOf}
 use Rattle.scope.specs.declared.Found.{Found}
 use Rattle.scope.specs.declared.Found.the-variants.{At, Nowhere}
 use Rattle.tables.specs.Holding.{Sits, Row, Rows, Below}
+use Rattle.tables.proofs.KeyLaws.{Bytes, bytes-part, one-key}
 
 -- ---- the key: the first i letters of l make k
 pub record Packing (l : List ℕ) (k i : ℕ) : Type 0 where
@@ -56,16 +57,26 @@ module _ {text w : List ℕ} {at : ℕ} {n : Name} (r : Row text w at n) where
   pub row-letters : part (getD w at 0) (getD w at 0 + getD w (at + 1) 0) text ≡ n .letters
   row-letters = rw (r .place, r .long) (r .sits .there)
 
-  pub row-fits : getD w at 0 + getD w (at + 1) 0 ≤ length text
-  row-fits = rw (r .place, r .long) (r .sits .inside)
-
-  -- a name with another key has other letters
-  pub other-key : (name : List ℕ) → (getD w (at + 2) 0 ≡ keyOf name → ⊥) → false ≡ same (n .letters) name
-  other-key name h = go (same (n .letters) name) refl
+  -- a name with another key, or of another length, has other letters
+  other : (name : List ℕ) → (n .letters ≡ name → ⊥) → false ≡ same (n .letters) name
+  other name h = go (same (n .letters) name) refl
     where
       go : (t : Bool) → same (n .letters) name ≡ t → false ≡ t
       go false e = refl
-      go true e = absurd (h (r .key ∙ ap keyOf (same-equal (n .letters) name e)))
+      go true e = absurd (h (same-equal (n .letters) name e))
+
+  pub other-key : (name : List ℕ) → (getD w (at + 2) 0 ≡ keyOf name → ⊥) → false ≡ same (n .letters) name
+  other-key name h = other name (λ e. h (r .key ∙ ap keyOf e))
+
+  pub other-length : (name : List ℕ) → (getD w (at + 1) 0 ≡ length name → ⊥) → false ≡ same (n .letters) name
+  other-length name h = other name (λ e. h (r .long ∙ ap length e))
+
+  -- a short name with its key and of its length has its letters
+  pub key-tells : (name : List ℕ) → Bytes text → Bytes name → getD w (at + 2) 0 ≡ keyOf name → getD w (at + 1) 0 ≡ length name → getD w (at + 1) 0 ≤ 8
+      → true ≡ same (n .letters) name
+  key-tells name p q k l s =
+      let b : Bytes (n .letters) = rw (← row-letters) (bytes-part (getD w at 0) (getD w at 0 + getD w (at + 1) 0) text p) in
+      sym (same-iff (n .letters) name .1 (one-key (n .letters) name b q (sym (r .long) ∙ l) (omega (arith, s, r .long)) (sym (r .key) ∙ k)))
 
 -- ---- the rows that are left
 module _ (ns : List Name) (i : ℕ) (word : List ℕ) where

@@ -187,7 +187,8 @@ pub fn first_in_slot(words: &[u64], at: usize, count: usize) -> usize
 
 // ---- names looked up
 
-// Whether the row at `row` has the name: its key is compared first, the letters only where the keys are equal.
+// Whether the row at `row` has the name: its key is compared first, then its length.
+// The key has the first eight letters, so only longer names are compared letter by letter.
 fn row_is(text: &[u8], words: &[u64], row: usize, key: u64, name: &[u8]) -> bool
     requires { ⌜ SomeRow (now text) (now words) row × (key ≡ keyOf (now name)) ⌝ }
     ensures { λ r. ⌜ ((n : Name) → Row (now (text .entry)) (now (words .entry)) row n → r ≡ same (n .letters) (now (name .entry))) ⌝ }
@@ -195,8 +196,14 @@ fn row_is(text: &[u8], words: &[u64], row: usize, key: u64, name: &[u8]) -> bool
     if words[row + 2] != key {
         return false;
     }
-    let a = words[row] as usize;
     let n = words[row + 1] as usize;
+    if n != name.len() {
+        return false;
+    }
+    if n <= 8 {
+        return true;
+    }
+    let a = words[row] as usize;
     let e = a + n;
     letters::equal(&text[a..e], name)
 }

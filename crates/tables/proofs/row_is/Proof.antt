@@ -4,7 +4,7 @@ use denote.Ref.{now}
 use mathlib.Core.Path.{_∙_, ap}
 use mathlib.Core.List.{List}
 use Rattle.letters.specs.Words.{same}
-use Rattle.tables.proofs.LookLaws.{other-key, row-letters, row-fits}
+use Rattle.tables.proofs.LookLaws.{other-key, other-length, key-tells, row-letters}
 use borrow.Author.Needs.{needs}
 use Rattle.tables.proofs.row_is.Statement.{statement}
 use Rattle.tables.proofs.row_is.Tie as tie
@@ -24,12 +24,6 @@ shared-slice-read-if1 c = search needs
 returns : tie.Need-returns
 returns c = λ n r. other-key r (now (c .before .before .before .before .before .args .name)) (λ e. omega (arith, c .before .before .before .before .before .pre .1, e))
 
-mul-a : tie.Need-mul-a
-mul-a c = search needs
-
-shared-slice-read-a : tie.Need-shared-slice-read-a
-shared-slice-read-a c = search needs
-
 add-n : tie.Need-add-n
 add-n c = search needs
 
@@ -38,6 +32,18 @@ mul-n c = search needs
 
 shared-slice-read-n : tie.Need-shared-slice-read-n
 shared-slice-read-n c = search needs
+
+returns-2 : tie.Need-returns-2
+returns-2 c = λ n r. other-length r (now (c .before .before .before .before .before .before .before .args .name)) (λ e. omega (arith, e))
+
+returns-3 : tie.Need-returns-3
+returns-3 c = λ n r. key-tells r (now (c .before .before .before .before .before .before .before .before .args .name)) (λ i. omega (arith, c .before .before .before .before .before .before .before .shared-slice-known .given i)) (λ i. omega (arith, c .before .before .before .before .before .shared-slice-known3 .given i)) (omega (arith, c .before .before .before .before .before .before .before .before .pre .1)) (omega arith) (omega arith)
+
+mul-a : tie.Need-mul-a
+mul-a c = search needs
+
+shared-slice-read-a : tie.Need-shared-slice-read-a
+shared-slice-read-a c = search needs
 
 add-e : tie.Need-add-e
 add-e c = search needs
@@ -54,8 +60,8 @@ part-equal-end c = search needs
 equal-requires : tie.Need-equal-requires
 equal-requires c κs = search needs
 
-returns-2 : tie.Need-returns-2
-returns-2 c = λ n r. c .equal .ensures ∙ ap (λ (l : List ℕ). same l (now (c .before .before .before .before .before .before .before .before .before .args .name))) (row-letters r)
+returns-4 : tie.Need-returns-4
+returns-4 c = λ n r. c .equal .ensures ∙ ap (λ (l : List ℕ). same l (now (c .before .before .before .before .before .before .before .before .before .before .before .args .name))) (row-letters r)
 
 pub row-is-spec : {M : Type 1} → statement M
 row-is-spec =
@@ -65,14 +71,16 @@ row-is-spec =
     mul-if1
     shared-slice-read-if1
     returns
-    mul-a
-    shared-slice-read-a
     add-n
     mul-n
     shared-slice-read-n
+    returns-2
+    returns-3
+    mul-a
+    shared-slice-read-a
     add-e
     sub-equal
     part-equal-start
     part-equal-end
     equal-requires
-    returns-2)
+    returns-4)
