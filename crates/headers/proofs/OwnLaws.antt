@@ -2,23 +2,22 @@
 use Prim.Native.Nat.{ℕ, zero, suc, _+_, _-_, _≤_, _<_}
 use native.Mathlib.Omega.{arith}
 use native.Mathlib.Nat.{add-zero, add-assoc}
+use borrow.Author.Tests.{ne-eqb}
 use mathlib.Core.Path.{_≡_, refl, sym, ap, ap₂, _∙_, subst}
 use mathlib.Core.Bool.{Bool, true, false, cond}
 use mathlib.Core.List.{List, [], _∷_, _++_, map, append-assoc, append-nil, map-append}
-use lib.ListN.{length, take, drop, length-append, length-take, length-drop, drop-of-length-le}
-use lib.Seq.{take-length, take-all}
+use lib.ListN.{length, take, drop, getD, length-append, length-take, length-drop, drop-of-length-le}
+use lib.Seq.{drop-cons, take-length, take-all}
 use Rattle.digits.specs.Bytes.{classOf}
-use Rattle.fields.specs.Fields.{Name, part, fieldsOf, fieldsAt, Next}
-use Rattle.scans.specs.Lines.{chunks, joined, lineLen, startTrimmed, endTrimmed, trimmed, lineKind}
-use Rattle.letters.specs.Words.{begins}
+use Rattle.fields.specs.Fields.{Name, part, fieldsOf, fieldsAt, startAt}
+use Rattle.scans.specs.Lines.{chunks, joined, lineLen, startTrimmed, trimmed, kindBy}
+use Rattle.letters.specs.Words.{same, begins}
 use Rattle.scans.specs.Scan.{spanLen}
 use Rattle.fields.specs.declared.Span.{Span}
 use Rattle.scans.specs.declared.LineKind.{LineKind}
 use Rattle.scans.specs.declared.LineKind.the-variants as kind
-use Rattle.fields.specs.declared.Field.{Field}
-use Rattle.fields.specs.declared.Field.the-variants.{Taken, Nothing}
-use Rattle.fields.proofs.FieldLaws.{start-taken, start-nothing, drop-take, part-take}
-use Rattle.scans.proofs.LineLaws.{end-le, end-more, body-is, body-long, chunks-at, trimmed-start}
+use Rattle.fields.proofs.FieldLaws.{drop-take, part-take}
+use Rattle.scans.proofs.LineLaws.{end-le, end-more, body-is, body-long, chunks-at, trimmed-start, start-at, kind-some, kind-none}
 use Rattle.scans.proofs.TrimLaws.{begins-trimmed}
 use Rattle.lines.specs.Reader as L
 use Rattle.lines.specs.Text.{Line}
@@ -26,37 +25,64 @@ use Rattle.lines.specs.Stretch.{secBy, ownBy, secAfter}
 use Rattle.scope.specs.declared.Section.{Section}
 use Rattle.scope.specs.declared.Section.the-variants.{Junctions, Reservoirs, Tanks, Pipes, Pumps, Valves, Curves, Patterns, Demands, Emitters, Coordinates, Times, Rules, Passed}
 use Rattle.scope.specs.Spelling.{wordRule}
-use Rattle.scope.specs.Sections.{isRules}
+use Rattle.scope.specs.Sections.{sectionOf, isRules}
 use Rattle.scope.specs.Lines.{sortBy, sortOf, ruleFields}
 use Rattle.headers.specs.Own.{ownFields, groupFields, OwnHere, OwnFrom, NextHere, NextOwn}
 use Rattle.headers.specs.declared.OwnLine.{OwnLine}
 use Rattle.headers.specs.declared.OwnLine.the-variants as own
 
--- ---- what a line is
-pub sort-nothing : (l : List ℕ) (at : ℕ) (f : Field) → Next l at f → f ≡ Nothing → L.empty ≡ sortOf (drop at l)
-unfolding sortOf sortBy lineKind trimmed endTrimmed
-sort-nothing l at f n e = rw (start-nothing l at f n e)
+-- ---- what a line is, by the place i of its first byte that is no whitespace
+module _ (l : List ℕ) (at i : ℕ) (es : i ≡ startAt l at) where
+  pub sort-nothing : length l ≤ i → L.empty ≡ sortOf (drop at l)
+  unfolding sortOf sortBy
+  sort-nothing h = ap (λ (k : LineKind). sortBy k (trimmed (drop at l))) (kind-none l at i es h)
 
--- the line c, from its first field on, is what the whole line is
-module _ (l : List ℕ) (at : ℕ) (f : Field) (n : Next l at f) (s : Span) (e : f ≡ Taken s) (c : List ℕ) (ec : c ≡ take (length l) (drop (s .at) l)) where
-  from-field : c ≡ startTrimmed (drop at l)
-  from-field = ec ∙ take-all (length l) (drop (s .at) l) (omega (arith, length-drop (s .at) l)) ∙ sym (start-taken l at f n s e)
+  module _ (h : i < length l) where
+    abbrev first : ℕ
+    first = getD l i 0
 
-  same-trimmed : trimmed c ≡ trimmed (drop at l)
-  same-trimmed = ap trimmed from-field ∙ trimmed-start (drop at l)
+    -- the line from that byte on
+    abbrev left : List ℕ
+    left = take (length l - i) (drop i l)
 
-  pub sort-is : (k : LineKind) → k ≡ lineKind c → sortBy k (trimmed c) ≡ sortOf (drop at l)
-  unfolding sortOf lineKind
-  sort-is k ek = rw (ek, same-trimmed)
+    left-is : left ≡ startTrimmed (drop at l)
+    left-is = take-all (length l - i) (drop i l) (omega (arith, length-drop i l)) ∙ sym (start-at l at i es)
 
-  -- it begins with RULE where the trimmed line does
-  begins-rule : begins c wordRule ≡ begins (trimmed c) wordRule
-  unfolding spanLen classOf
-  begins-rule = ap (λ (x : List ℕ). begins x wordRule) from-field ∙ begins-trimmed (drop at l) wordRule refl ∙ sym (ap (λ (x : List ℕ). begins x wordRule) same-trimmed)
+    same-trimmed : trimmed left ≡ trimmed (drop at l)
+    same-trimmed = ap trimmed left-is ∙ trimmed-start (drop at l)
 
-  pub sort-plain : kind.Other ≡ lineKind c → sortBy kind.Other c ≡ sortOf (drop at l)
-  unfolding sortBy
-  sort-plain ek = ap (λ (t : Bool). cond t L.start L.other) begins-rule ∙ sort-is kind.Other ek
+    sort-is : (k : LineKind) → k ≡ kindBy (first ∷ []) → sortBy k (trimmed left) ≡ sortOf (drop at l)
+    unfolding sortOf
+    sort-is k ek = rw (ek ∙ kind-some l at i es h, same-trimmed)
+
+    -- it begins with RULE where the trimmed line does
+    begins-rule : begins left wordRule ≡ begins (trimmed left) wordRule
+    unfolding spanLen classOf
+    begins-rule = ap (λ (x : List ℕ). begins x wordRule) left-is ∙ begins-trimmed (drop at l) wordRule refl ∙ sym (ap (λ (x : List ℕ). begins x wordRule) same-trimmed)
+
+    sort-plain : kind.Other ≡ kindBy (first ∷ []) → sortBy kind.Other left ≡ sortOf (drop at l)
+    unfolding sortBy
+    sort-plain ek = ap (λ (t : Bool). cond t L.start L.other) begins-rule ∙ sort-is kind.Other ek
+
+    -- by that byte
+    pub sort-blank : first ≡ 59 → L.empty ≡ sortOf (drop at l)
+    unfolding sortBy
+    sort-blank e = sort-is kind.Blank (rw e)
+
+    pub sort-header : first ≡ 91 → (w : List ℕ) → w ≡ trimmed left → (s : Section) → s ≡ sectionOf w → L.heading s ≡ sortOf (drop at l)
+    unfolding sortBy
+    sort-header e w ew s q = ap L.heading (q ∙ ap sectionOf ew) ∙ sort-is kind.Header (rw e)
+
+    pub sort-rule : first ≡ 82 → (k : L.Sort Section) → k ≡ sortBy kind.Other left → k ≡ sortOf (drop at l)
+    sort-rule e k q = q ∙ sort-plain (rw e)
+
+    no-rule : (first ≡ 82 → ⊥) → begins left wordRule ≡ false
+    unfolding same
+    no-rule r = rw (left-is ∙ start-at l at i es ∙ drop-cons l i 0 h, ne-eqb first 82 r)
+
+    pub sort-other : (first ≡ 59 → ⊥) → (first ≡ 91 → ⊥) → (first ≡ 82 → ⊥) → L.other ≡ sortOf (drop at l)
+    unfolding sortBy
+    sort-other b a r = sym (ap (λ (t : Bool). cond t L.start L.other) (no-rule r)) ∙ sort-plain (rw (ne-eqb first 59 b, ne-eqb first 91 a))
 
 -- a line of RULES that is the group's own leaves the section as it is
 rules-only : (s : Section) → isRules s ≡ true → s ≡ Rules

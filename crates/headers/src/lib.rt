@@ -7,9 +7,7 @@ ghost use Rattle.scope.specs.Sections.{sectionOf, isRules};
 ghost use Rattle.scope.specs.Lines.{sortBy, sortOf};
 ghost use Rattle.headers.specs.Sections.{linkSection, seriesSection, otherSection};
 ghost use Rattle.headers.specs.Own.{sortIn, OwnFrom, NextOwn};
-use fields::Field;
 use fields::Span;
-use scans::LineKind;
 use scope::Section;
 
 // ---- the section that a header opens: `w` is the header's line, trimmed. A chain of four, as a check grows with the square of a chain's length
@@ -96,20 +94,21 @@ fn plain_sort(w: &[u8]) -> Sort
     Sort::Other
 }
 
-// What the line of `l` from `at` on is. Only a header is trimmed at its end: no other line asks for it.
+// What the line of `l` from `at` on is. Its first byte that is no whitespace tells most lines: only one with an R is compared with RULE.
+// Only a header is trimmed at its end: no other line asks for it.
 pub fn sort_of(l: &[u8], at: usize) -> Sort
     ensures { λ r. ⌜ sortIn r ≡ sortOf (drop at (now (l .entry))) ⌝ }
 {
-    let f = fields::next_field(l, at);
-    let Field::Taken(s) = f else {
+    let start = fields::field_start(l, at);
+    if l.len() <= start {
         return Sort::Empty;
-    };
-    let w = letters::cut(l, s.at, l.len());
-    let k = scans::line_kind(w, 0);
-    match k {
-        LineKind::Blank => Sort::Empty,
-        LineKind::Header => Sort::Heading(section_of(scans::trimmed(w))),
-        LineKind::Other => plain_sort(w),
+    }
+    let b = l[start];
+    match b {
+        59 => Sort::Empty,
+        91 => Sort::Heading(section_of(scans::trimmed(&l[start..]))),
+        82 => plain_sort(&l[start..]),
+        _ => Sort::Other,
     }
 }
 
