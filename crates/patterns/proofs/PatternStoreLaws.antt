@@ -5,7 +5,7 @@ use borrow.Author.Tests.{lt-ltb, le-ltb, le-leb, lt-leb}
 use mathlib.Core.Path.{_≡_, refl, sym, ap, _∙_}
 use mathlib.Core.Bool.{Bool, true, false, _&&_}
 use mathlib.Core.List.{List, [], _∷_}
-use lib.ListN.{length, replicate, length-append, length-map}
+use lib.ListN.{length, drop, replicate, length-append, length-drop, length-map}
 use lib.Dec.{ltb}
 use lib.Ieee.{Float}
 use Rattle.decimals.specs.Numbers.{numberOf}
@@ -27,6 +27,7 @@ use Rattle.tables.specs.Adding.{patternAdded}
 use Rattle.tables.specs.Holding.{Holds, After}
 use Rattle.tables.specs.declared.Kept.the-variants.{Stored, Refused}
 use Rattle.tables.proofs.HoldLaws.{sits-span, add-pattern, add-multipliers, count-patterns, count-multipliers}
+use Rattle.serieslines.specs.Lines.{Multipliers}
 use Rattle.serieslines.proofs.PatternLaws.{line-le}
 
 -- as many multipliers as fields
@@ -42,11 +43,10 @@ unfolding multipliersOf
 values-long [] xs e = let q : [] ≡ xs = cc in sym (ap length q)
 values-long (f ∷ fs) xs e = on-long (numberOf (f .letters)) fs (multipliersOf fs) xs (values-long fs) e
 
-pub values-le : (l : List ℕ) (at : ℕ) (xs : List Float) → multipliersOf (fieldsAt l at) ≡ good xs → length xs ≤ length l
-values-le l at xs e = omega (arith, values-long (fieldsAt l at) xs e, line-le l at)
-
-pub one-read : (fs : List Name) (xs ys : List Float) → multipliersOf fs ≡ good xs → multipliersOf fs ≡ good ys → xs ≡ ys
-one-read fs xs ys a b = cc
+-- no more multipliers than bytes of the line and places of the slice
+pub count-le : {l : List ℕ} {first : List Float} {count rest : ℕ} {xs : List Float} → Multipliers l first count rest xs → count ≤ length l + length first
+count-le {l} {first} {count} {rest} {xs} g =
+    omega (arith, g .long, length-drop (length first) xs, values-long (fieldsAt l rest) (drop (length first) xs) (g .left), line-le l rest)
 
 module _ {text : List ℕ} {m : Network} {s : Counts} {w : List ℕ} {f : List Float} (h : Holds text m s w f) (id : Span) (xs : List Float) where
   and-false : (t : Bool) → (t && false) ≡ false

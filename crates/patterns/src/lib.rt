@@ -13,6 +13,7 @@ ghost use Rattle.scope.specs.Tables.{recordWords, roomNumbers};
 ghost use Rattle.tables.specs.Table.{splice};
 ghost use Rattle.tables.specs.Layout.{multipliersAt, multiplierNumbersAt};
 ghost use Rattle.tables.specs.Holding.{Holds, Sound, After};
+ghost use Rattle.serieslines.specs.Lines.{Multipliers};
 use curves::put_id;
 use scope::Counts;
 use scope::Found;
@@ -22,20 +23,13 @@ use serieslines::PatternRead;
 use tables::Kept;
 use takers::TookNumber;
 
-// The numbers from `at` on as multipliers of a pattern, from multiplier number `first` on.
-fn put_multipliers(
-    l: &[u8],
-    at: usize,
-    first: usize,
-    pattern: usize,
-    words: &mut [u64],
-    numbers: &mut [f64],
-)
-    requires { ⌜ ((xs : List Float) × (multipliersOf (fieldsAt (now l) at) ≡ good xs) × (first + length xs ≤ roomMultipliers) × (length (now words) ≡ recordWords) × (length (now numbers) ≡ roomNumbers)) ⌝ }
+// The numbers from `at` on as multipliers of a pattern, from multiplier number `k` on.
+fn put_rest(l: &[u8], at: usize, k: usize, pattern: usize, words: &mut [u64], numbers: &mut [f64])
+    requires { ⌜ ((xs : List Float) × (multipliersOf (fieldsAt (now l) at) ≡ good xs) × (k + length xs ≤ roomMultipliers) × (length (now words) ≡ recordWords) × (length (now numbers) ≡ roomNumbers)) ⌝ }
     ensures { λ _. ⌜ ((xs : List Float) → multipliersOf (fieldsAt (now (l .entry)) at) ≡ good xs
-        → (now (words .exit) ≡ splice (now (words .entry)) (multipliersAt + first) (replicate (length xs) pattern)) × (now (numbers .exit) ≡ splice (now (numbers .entry)) (multiplierNumbersAt + first) xs)) ⌝ }
+        → (now (words .exit) ≡ splice (now (words .entry)) (multipliersAt + k) (replicate (length xs) pattern)) × (now (numbers .exit) ≡ splice (now (numbers .entry)) (multiplierNumbersAt + k) xs)) ⌝ }
 {
-    let mut i = first;
+    let mut i = k;
     let mut p = at;
     loop {
         let t = takers::take_number(l, p);
@@ -49,20 +43,56 @@ fn put_multipliers(
     }
 }
 
+// The numbers as multipliers of a pattern, from multiplier number `k` on.
+fn put_numbers(xs: &[f64], k: usize, pattern: usize, words: &mut [u64], numbers: &mut [f64])
+    requires { ⌜ (k + length (now xs) ≤ roomMultipliers) × (length (now words) ≡ recordWords) × (length (now numbers) ≡ roomNumbers) ⌝ }
+    ensures { λ _. ⌜ (now (words .exit) ≡ splice (now (words .entry)) (multipliersAt + k) (replicate (length (now (xs .entry))) pattern)) × (now (numbers .exit) ≡ splice (now (numbers .entry)) (multiplierNumbersAt + k) (now (xs .entry))) ⌝ }
+{
+    let mut i = 0;
+    while i < xs.len() {
+        words[tables::MULTIPLIERS + k + i] = pattern as u64;
+        numbers[tables::MULTIPLIER_NUMBERS + k + i] = xs[i];
+        i += 1;
+    }
+}
+
+// The multipliers of a line, from multiplier number `k` on. Those in `first` are not read again.
+fn put_multipliers(
+    l: &[u8],
+    first: &[f64],
+    p: PatternLine,
+    k: usize,
+    pattern: usize,
+    words: &mut [u64],
+    numbers: &mut [f64],
+)
+    requires { ⌜ ((xs : List Float) × Multipliers (now l) (now first) (p .count) (p .rest) xs × (k + length xs ≤ roomMultipliers) × (length (now words) ≡ recordWords) × (length (now numbers) ≡ roomNumbers)) ⌝ }
+    ensures { λ _. ⌜ ((xs : List Float) → Multipliers (now (l .entry)) (now (first .entry)) (p .count) (p .rest) xs
+        → (now (words .exit) ≡ splice (now (words .entry)) (multipliersAt + k) (replicate (length xs) pattern)) × (now (numbers .exit) ≡ splice (now (numbers .entry)) (multiplierNumbersAt + k) xs)) ⌝ }
+{
+    let count = p.count;
+    if count <= first.len() {
+        put_numbers(&first[..count], k, pattern, words, numbers);
+        return;
+    }
+    put_numbers(first, k, pattern, words, numbers);
+    put_rest(l, p.rest, k + first.len(), pattern, words, numbers);
+}
+
 fn store_pattern(
     text: &[u8],
     line: &[u8],
+    first: &[f64],
     p: PatternLine,
     s: Counts,
     words: &mut [u64],
     numbers: &mut [f64],
 ) -> Kept
-    requires { ⌜ Sound (now text) s (now words) (now numbers) × Fits (now text) (p .id) × ((xs : List Float) × (multipliersOf (fieldsAt (now line) (p .at)) ≡ good xs) × (length xs ≡ p .count)) ⌝ }
-    ensures { λ r. ⌜ ((m : Network) (xs : List Float) → Holds (now (text .entry)) m s (now (words .entry)) (now (numbers .entry)) → multipliersOf (fieldsAt (now (line .entry)) (p .at)) ≡ good xs
+    requires { ⌜ Sound (now text) s (now words) (now numbers) × Fits (now text) (p .id) × ((xs : List Float) × Multipliers (now line) (now first) (p .count) (p .rest) xs) ⌝ }
+    ensures { λ r. ⌜ ((m : Network) (xs : List Float) → Holds (now (text .entry)) m s (now (words .entry)) (now (numbers .entry)) → Multipliers (now (line .entry)) (now (first .entry)) (p .count) (p .rest) xs
         → After (now (text .entry)) (addPattern (nameIn (now (text .entry)) (p .id)) xs m) r (now (words .entry)) (now (numbers .entry)) (now (words .exit)) (now (numbers .exit))) ⌝ }
 {
     let id = p.id;
-    let at = p.at;
     let count = p.count;
     let n = s.patterns;
     let k = s.multipliers;
@@ -74,13 +104,13 @@ fn store_pattern(
     t.multipliers = k + count;
     match found {
         Found::At(i) => {
-            put_multipliers(line, at, k, i, words, numbers);
+            put_multipliers(line, first, p, k, i, words, numbers);
             Kept::Stored(t)
         }
         Found::Nowhere => {
             if n < 64 {
                 put_id(text, id, n, tables::PATTERNS, tables::PATTERN_SLOTS, words);
-                put_multipliers(line, at, k, n, words, numbers);
+                put_multipliers(line, first, p, k, n, words, numbers);
                 t.patterns = n + 1;
                 return Kept::Stored(t);
             }
@@ -89,7 +119,7 @@ fn store_pattern(
     }
 }
 
-// The line of PATTERNS from `at` to `end`.
+// The line of PATTERNS from `at` to `end`. Its first eight multipliers are kept until the whole line is read: most lines have no more, and are read once.
 pub fn pattern_line(
     text: &[u8],
     at: usize,
@@ -103,9 +133,10 @@ pub fn pattern_line(
         → After (now (text .entry)) (patternStep (fieldsAt (take end (now (text .entry))) at) m) r (now (words .entry)) (now (numbers .entry)) (now (words .exit)) (now (numbers .exit))) ⌝ }
 {
     let line = &text[..end];
-    let read = serieslines::read_pattern(line, at);
+    let mut first = [0.0; 8];
+    let read = serieslines::read_pattern(line, at, &mut first);
     match read {
-        PatternRead::Pattern(p) => store_pattern(text, line, p, s, words, numbers),
+        PatternRead::Pattern(p) => store_pattern(text, line, &first, p, s, words, numbers),
         PatternRead::NoPattern(why) => Kept::Refused(why),
     }
 }

@@ -1,10 +1,12 @@
 -- A loop over the multipliers of a line. Assumes nothing.
-use Prim.Native.Nat.{ℕ, suc, _+_, _≤_}
+use Prim.Native.Nat.{ℕ, suc, _+_, _≤_, _<_}
 use native.Mathlib.Omega.{arith}
-use mathlib.Core.Path.{_≡_, refl, ap, _∙_}
+use native.Mathlib.Numerals.{add-one}
+use mathlib.Core.Path.{_≡_, refl, sym, ap, _∙_}
 use mathlib.Core.Bool.{Bool, true, false, cond}
 use mathlib.Core.List.{List, [], _∷_, _++_, append-assoc, append-nil}
-use lib.ListN.{length, drop, length-append, length-drop}
+use lib.ListN.{length, take, drop, set, length-append, length-drop, length-set, drop-of-length-le}
+use lib.Seq.{take-nil, drop-nil, take-all, take-append-le, drop-append-le, take-suc-set}
 use lib.Ieee.{Float}
 use Rattle.decimals.specs.Numbers.{numberOf}
 use Rattle.decimals.specs.declared.Number as D
@@ -17,6 +19,8 @@ use Rattle.scope.specs.Values.{Read, good, bad, onRead}
 use Rattle.scope.specs.Series.{multipliersOf}
 use Rattle.takers.specs.declared.TookNumber.the-variants.{Number, NoNumber}
 use Rattle.takers.specs.Taking.{numberTook}
+use Rattle.serieslines.specs.Lines.{CountedAs}
+use Rattle.serieslines.specs.declared.Counted.the-variants.{Count}
 
 -- there are no more fields than bytes
 before-le : (at b : ℕ) (bs : List ℕ) (fs : List Name) → length (before at b bs fs) ≤ suc (length fs)
@@ -60,12 +64,15 @@ module _ (f : Name) (fs : List Name) where
   no-number Malformed why e q h = let a : reason.Malformed ≡ why = cc in rw (q, a)
   no-number Beyond why e q h = let a : reason.Beyond ≡ why = cc in rw (q, a)
 
--- how far the loop has come: n multipliers of the fields fs are read, the fields gs are left
-pub record Going (fs : List Name) (gs : List Name) (n : ℕ) : Type 0 where
+-- how far the loop has come: n multipliers of the fields fs are read, and the first r of them are kept; the fields gs are left, and past those that are kept, the fields hs
+pub record Going (fs gs hs : List Name) (r : ℕ) (first : List Float) (n : ℕ) : Type 0 where
   pub done : List Float
   pub long : length done ≡ n
   pub whole : multipliersOf fs ≡ onRead (multipliersOf gs) (λ xs. good (done ++ xs))
-  pub left : n + length gs ≡ length fs
+  pub fewer : n + length gs ≡ length fs
+  pub room : length first ≡ r
+  pub kept : take n first ≡ take r done
+  pub left : multipliersOf hs ≡ onRead (multipliersOf gs) (λ xs. good (drop r done ++ xs))
 
 on-nothing : (o : Read (List Float)) → o ≡ onRead o (λ xs. good xs)
 on-nothing (good a) = refl
@@ -76,32 +83,72 @@ on-more : (o : Read (List Float)) (done : List Float) (x : Float)
 on-more (good a) done x = rw append-assoc
 on-more (bad n) done x = refl
 
-pub start-going : (fs : List Name) → Going fs fs 0
-start-going fs = record { done = []; long = refl; whole = on-nothing (multipliersOf fs); left = omega arith }
+pub start-going : (fs : List Name) (first : List Float) → Going fs fs fs (length first) first 0
+start-going fs first =
+    record {
+      done = [];
+      long = refl;
+      whole = on-nothing (multipliersOf fs);
+      fewer = omega arith;
+      room = refl;
+      kept = sym (take-nil (length first));
+      left = rw (drop-nil (length first)) (on-nothing (multipliersOf fs));
+    }
 
-module _ {fs gs : List Name} {n : ℕ} (g : Going fs gs n) where
+module _ {fs gs hs : List Name} {r : ℕ} {first : List Float} {n : ℕ} (g : Going fs gs hs r first n) where
   -- one more number: the next field f ends at e
-  pub more-going : (l : List ℕ) (f : Name) (e next : ℕ) (x : Float) → gs ≡ f ∷ fieldsAt l e → numberTook (numberOf (f .letters)) e ≡ Number x next → Going fs (fieldsAt l next) (n + 1)
-  more-going l f e next x q h =
-      let (p, same) = with-number f (fieldsAt l e) (numberOf (f .letters)) x e next refl h in
-      let p′ : multipliersOf gs ≡ onRead (multipliersOf (fieldsAt l next)) (λ xs. good (x ∷ xs)) = rw (q, ← same) p in
-      record {
-        done = g .done ++ (x ∷ []);
-        long = omega (arith, length-append (g .done) (x ∷ []), g .long);
-        whole = g .whole ∙ rw p′ (on-more (multipliersOf (fieldsAt l next)) (g .done) x);
-        left = rw (← same) (omega (arith, ap length q, g .left));
-      }
+  module _ (l : List ℕ) (f : Name) (e next : ℕ) (x : Float) (q : gs ≡ f ∷ fieldsAt l e) (h : numberTook (numberOf (f .letters)) e ≡ Number x next) where
+    abbrev more : List Float
+    more = g .done ++ (x ∷ [])
 
-  -- fewer fields are left
-  pub less-going : (l : List ℕ) (f : Name) (e next : ℕ) (x : Float) → gs ≡ f ∷ fieldsAt l e → numberTook (numberOf (f .letters)) e ≡ Number x next
-      → length gs ≡ length (fieldsAt l next) + 1
-  less-going l f e next x q h =
-      let (p, same) = with-number f (fieldsAt l e) (numberOf (f .letters)) x e next refl h in
-      rw (← same) (omega (arith, ap length q))
+    one : (multipliersOf gs ≡ onRead (multipliersOf (fieldsAt l next)) (λ xs. good (x ∷ xs))) × (length gs ≡ length (fieldsAt l next) + 1)
+    one =
+        let (p, same) = with-number f (fieldsAt l e) (numberOf (f .letters)) x e next refl h in
+        (rw (q, ← same) p, rw (← same) (omega (arith, ap length q)))
 
-  pub done-going : gs ≡ [] → (xs : List Float) × (multipliersOf fs ≡ good xs) × (length xs ≡ n)
-  unfolding multipliersOf
-  done-going e = (g .done, g .whole ∙ rw (e, append-nil), g .long)
+    -- fewer fields are left
+    pub less-going : length gs ≡ length (fieldsAt l next) + 1
+    less-going = one .1
+
+    more-long : length more ≡ n + 1
+    more-long = omega (arith, length-append (g .done) (x ∷ []), g .long)
+
+    -- what was read before, and the number, before what is left
+    then : (done : List Float) (o : Read (List Float)) → o ≡ onRead (multipliersOf gs) (λ xs. good (done ++ xs))
+        → o ≡ onRead (multipliersOf (fieldsAt l next)) (λ xs. good ((done ++ (x ∷ [])) ++ xs))
+    then done o e = e ∙ rw (one .0) (on-more (multipliersOf (fieldsAt l next)) done x)
+
+    -- a number that is kept, and one past the first eight
+    pub keep-going : n < r → Going fs (fieldsAt l next) (fieldsAt l next) r (set first n x) (n + 1)
+    keep-going k =
+        let none : drop r more ≡ [] = drop-of-length-le more {i = r} (omega (arith, more-long)) in
+        let all : take r more ≡ more = take-all r more (omega (arith, more-long)) in
+        let before : take n first ≡ g .done = g .kept ∙ take-all r (g .done) (omega (arith, g .long)) in
+        record {
+          done = more;
+          long = more-long;
+          whole = then (g .done) (multipliersOf fs) (g .whole);
+          fewer = omega (arith, one .1, g .fewer);
+          room = length-set first n x ∙ g .room;
+          kept = rw (all, add-one, take-suc-set first n x (omega (arith, g .room)), before);
+          left = rw none (on-nothing (multipliersOf (fieldsAt l next)));
+        }
+
+    pub pass-going : r ≤ n → Going fs (fieldsAt l next) hs r first (n + 1)
+    pass-going k =
+        record {
+          done = more;
+          long = more-long;
+          whole = then (g .done) (multipliersOf fs) (g .whole);
+          fewer = omega (arith, one .1, g .fewer);
+          room = g .room;
+          kept = take-all (n + 1) first (omega (arith, g .room)) ∙ sym (take-all n first (omega (arith, g .room))) ∙ g .kept ∙ sym (take-append-le r (g .done) (x ∷ []) (omega (arith, g .long)));
+          left = rw (drop-append-le r (g .done) (x ∷ []) (omega (arith, g .long))) (then (drop r (g .done)) (multipliersOf hs) (g .left));
+        }
 
   pub bad-going : (l : List ℕ) (f : Name) (e : ℕ) (why : Reason) → gs ≡ f ∷ fieldsAt l e → numberTook (numberOf (f .letters)) e ≡ NoNumber why → multipliersOf fs ≡ bad why
   bad-going l f e why q h = g .whole ∙ rw (q, no-number f (fieldsAt l e) (numberOf (f .letters)) why e refl h)
+
+pub done-going : {fs gs : List Name} {r : ℕ} {first : List Float} {n : ℕ} (l : List ℕ) (rest : ℕ) → Going fs gs (fieldsAt l rest) r first n → gs ≡ [] → CountedAs l first (multipliersOf fs) (Count n rest)
+unfolding multipliersOf
+done-going l rest g e = (g .done, g .whole ∙ rw (e, append-nil), record { long = g .long; kept = rw (g .room) (g .kept); left = rw (g .room) (g .left ∙ rw (e, append-nil)) })

@@ -3,7 +3,7 @@ use Prim.Native.Nat.{ℕ}
 use mathlib.Core.Path.{_≡_}
 use mathlib.Core.List.{List}
 use mathlib.Core.Option.{Option}
-use lib.ListN.{length}
+use lib.ListN.{length, take, drop}
 use lib.Ieee.{Float}
 use Rattle.fields.specs.Fields.{Name, fieldsAt, nameIn, Fits}
 use Rattle.scope.specs.Values.{Read, good, bad, onRead, onTook, nameFrom, optionalFrom, numberFrom}
@@ -52,22 +52,27 @@ patternOf fs =
     onRead (multipliersOf fs) (λ xs.
     good (record { id = id; values = xs })))
 
--- how many multipliers there are, or the reason of a refusal
-abbrev pub CountedAs : Read (List Float) → Counted → Type 0
-CountedAs o (Count n) = (xs : List Float) × (o ≡ good xs) × (length xs ≡ n)
-CountedAs o (NoCount why) = o ≡ bad why
+-- the multipliers xs of a line l: how many there are, the first of them, as many as a slice has room for, and the place where the others start
+pub record Multipliers (l : List ℕ) (first : List Float) (count rest : ℕ) (xs : List Float) : Type 0 where
+  pub long : length xs ≡ count
+  pub kept : take count first ≡ take (length first) xs
+  pub left : multipliersOf (fieldsAt l rest) ≡ good (drop (length first) xs)
 
--- the id, where the multipliers start, and how many there are
-pub record PatternIs (l : List ℕ) (o : Read PatternFields) (p : PatternLine) : Type 0 where
+-- the multipliers, or the reason of a refusal
+abbrev pub CountedAs : List ℕ → List Float → Read (List Float) → Counted → Type 0
+CountedAs l first o (Count n rest) = (xs : List Float) × (o ≡ good xs) × Multipliers l first n rest xs
+CountedAs l first o (NoCount why) = o ≡ bad why
+
+-- the id and the multipliers
+pub record PatternIs (l : List ℕ) (first : List Float) (o : Read PatternFields) (p : PatternLine) : Type 0 where
   pub values : List Float
   pub whole : o ≡ good (record { id = nameIn l (p .id); values = values })
-  pub read : multipliersOf (fieldsAt l (p .at)) ≡ good values
-  pub long : length values ≡ p .count
+  pub read : Multipliers l first (p .count) (p .rest) values
   pub fits : Fits l (p .id)
 
-abbrev pub PatternAs : List ℕ → Read PatternFields → PatternRead → Type 0
-PatternAs l o (Pattern p) = PatternIs l o p
-PatternAs l o (NoPattern why) = o ≡ bad why
+abbrev pub PatternAs : List ℕ → List Float → Read PatternFields → PatternRead → Type 0
+PatternAs l first o (Pattern p) = PatternIs l first o p
+PatternAs l first o (NoPattern why) = o ≡ bad why
 
 -- ---- a demand
 pub record DemandFields : Type 0 where

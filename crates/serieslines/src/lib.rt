@@ -19,11 +19,11 @@ pub enum PointRead {
     NoPoint(Reason),
 }
 
-// A pattern's id, where its multipliers start, and how many there are.
+// A pattern's id, how many multipliers there are, and where those start that do not stand in the caller's slice.
 pub struct PatternLine {
     pub id: Span,
-    pub at: usize,
     pub count: usize,
+    pub rest: usize,
 }
 
 pub enum PatternRead {
@@ -32,7 +32,7 @@ pub enum PatternRead {
 }
 
 pub enum Counted {
-    Count(usize),
+    Count(usize, usize),
     NoCount(Reason),
 }
 
@@ -66,20 +66,25 @@ pub fn read_curve(l: &[u8], at: usize) -> PointRead
     }
 }
 
-// How many numbers there are from `at` on, where all fields are numbers.
-fn count_multipliers(l: &[u8], at: usize) -> Counted
-    ensures { λ r. ⌜ CountedAs (multipliersOf (fieldsAt (now (l .entry)) at)) r ⌝ }
+// How many numbers there are from `at` on, where all fields are numbers. The first of them are put into `first`, as many as it has room for; the place is where the others start.
+fn count_multipliers(l: &[u8], at: usize, first: &mut [f64]) -> Counted
+    ensures { λ r. ⌜ CountedAs (now (l .entry)) (now (first .exit)) (multipliersOf (fieldsAt (now (l .entry)) at)) r ⌝ }
 {
     let mut n: usize = 0;
     let mut p = at;
+    let mut rest = at;
     loop {
         let f = takers::next_number(l, p);
         let NextNumber::Is(number, end) = f else {
-            return Counted::Count(n);
+            return Counted::Count(n, rest);
         };
         let t = takers::as_number(number, end);
         match t {
-            TookNumber::Number(_, next) => {
+            TookNumber::Number(x, next) => {
+                if n < first.len() {
+                    first[n] = x;
+                    rest = next;
+                }
                 n += 1;
                 p = next;
             }
@@ -90,22 +95,18 @@ fn count_multipliers(l: &[u8], at: usize) -> Counted
     }
 }
 
-// Id, and any count of multipliers.
-pub fn read_pattern(l: &[u8], at: usize) -> PatternRead
-    ensures { λ r. ⌜ PatternAs (now (l .entry)) (patternOf (fieldsAt (now (l .entry)) at)) r ⌝ }
+// Id, and any count of multipliers. The first of them are put into `first`.
+pub fn read_pattern(l: &[u8], at: usize, first: &mut [f64]) -> PatternRead
+    ensures { λ r. ⌜ PatternAs (now (l .entry)) (now (first .exit)) (patternOf (fieldsAt (now (l .entry)) at)) r ⌝ }
 {
     let f = fields::next_field(l, at);
     let Field::Taken(id) = f else {
         return PatternRead::NoPattern(Reason::Missing);
     };
     let from = id.end;
-    let all = count_multipliers(l, from);
+    let all = count_multipliers(l, from, first);
     match all {
-        Counted::Count(count) => PatternRead::Pattern(PatternLine {
-            id,
-            at: from,
-            count,
-        }),
+        Counted::Count(count, rest) => PatternRead::Pattern(PatternLine { id, count, rest }),
         Counted::NoCount(why) => PatternRead::NoPattern(why),
     }
 }

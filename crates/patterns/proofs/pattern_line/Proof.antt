@@ -13,14 +13,17 @@ use borrow.Author.Needs.{needs}
 use Rattle.patterns.proofs.pattern_line.Statement.{statement}
 use Rattle.patterns.proofs.pattern_line.Tie as tie
 
-is-read : (c : tie.After-known-told) → PatternIs (take (c .before .before .before .before .before .before .before .before .args .end) (now (c .before .before .before .before .before .before .before .before .args .text))) (patternOf (fieldsAt (take (c .before .before .before .before .before .before .before .before .args .end) (now (c .before .before .before .before .before .before .before .before .args .text))) (c .before .before .before .before .before .before .before .before .args .at))) (c .before .read .given .0 .0)
-is-read c = subst (λ (x : PatternRead). PatternAs (take (c .before .before .before .before .before .before .before .before .args .end) (now (c .before .before .before .before .before .before .before .before .args .text))) (patternOf (fieldsAt (take (c .before .before .before .before .before .before .before .before .args .end) (now (c .before .before .before .before .before .before .before .before .args .text))) (c .before .before .before .before .before .before .before .before .args .at))) x) (c .before .read .given .1) (c .before .before .before .read-pattern .ensures)
+is-read : (c : tie.After-known-told) → PatternIs (take (c .before .before .before .before .before .before .before .before .before .before .args .end) (now (c .before .before .before .before .before .before .before .before .before .before .args .text))) (c .before .before .before .before .read-pattern .last .1 .1 .0) (patternOf (fieldsAt (take (c .before .before .before .before .before .before .before .before .before .before .args .end) (now (c .before .before .before .before .before .before .before .before .before .before .args .text))) (c .before .before .before .before .before .before .before .before .before .before .args .at))) (c .before .read .given .0 .0)
+is-read c = subst (λ (x : PatternRead). PatternAs (take (c .before .before .before .before .before .before .before .before .before .before .args .end) (now (c .before .before .before .before .before .before .before .before .before .before .args .text))) (c .before .before .before .before .read-pattern .last .1 .1 .0) (patternOf (fieldsAt (take (c .before .before .before .before .before .before .before .before .before .before .args .end) (now (c .before .before .before .before .before .before .before .before .before .before .args .text))) (c .before .before .before .before .before .before .before .before .before .before .args .at))) x) (c .before .read .given .1) (c .before .before .before .before .read-pattern .ensures)
 
-no-read : (c : tie.After-known-told2) → patternOf (fieldsAt (take (c .before .before .before .before .before .before .before .before .args .end) (now (c .before .before .before .before .before .before .before .before .args .text))) (c .before .before .before .before .before .before .before .before .args .at)) ≡ bad (c .before .read2 .given .0 .0)
-no-read c = subst (λ (x : PatternRead). PatternAs (take (c .before .before .before .before .before .before .before .before .args .end) (now (c .before .before .before .before .before .before .before .before .args .text))) (patternOf (fieldsAt (take (c .before .before .before .before .before .before .before .before .args .end) (now (c .before .before .before .before .before .before .before .before .args .text))) (c .before .before .before .before .before .before .before .before .args .at))) x) (c .before .read2 .given .1) (c .before .before .before .read-pattern .ensures)
+no-read : (c : tie.After-known-told2) → patternOf (fieldsAt (take (c .before .before .before .before .before .before .before .before .before .before .args .end) (now (c .before .before .before .before .before .before .before .before .before .before .args .text))) (c .before .before .before .before .before .before .before .before .before .before .args .at)) ≡ bad (c .before .read2 .given .0 .0)
+no-read c = subst (λ (x : PatternRead). PatternAs (take (c .before .before .before .before .before .before .before .before .before .before .args .end) (now (c .before .before .before .before .before .before .before .before .before .before .args .text))) (c .before .before .before .before .read-pattern .last .1 .1 .0) (patternOf (fieldsAt (take (c .before .before .before .before .before .before .before .before .before .before .args .end) (now (c .before .before .before .before .before .before .before .before .before .before .args .text))) (c .before .before .before .before .before .before .before .before .before .before .args .at))) x) (c .before .read2 .given .1) (c .before .before .before .before .read-pattern .ensures)
 
 slice-aggregate-line : tie.Need-slice-aggregate-line
 slice-aggregate-line c = sym (length-take-le (c .before .before .before .before .args .end) (now (c .before .before .before .before .args .text)) (c .before .before .before .before .pre .1))
+
+slice-aggregate-read-pattern : tie.Need-slice-aggregate-read-pattern
+slice-aggregate-read-pattern c = search needs
 
 read-pattern-requires : tie.Need-read-pattern-requires
 read-pattern-requires c κs = search needs
@@ -28,8 +31,11 @@ read-pattern-requires c κs = search needs
 enum-known-read : tie.Need-enum-known-read
 enum-known-read c = search needs
 
+slice-aggregate-store-pattern : tie.Need-slice-aggregate-store-pattern
+slice-aggregate-store-pattern c = search needs
+
 store-pattern-requires : tie.Need-store-pattern-requires
-store-pattern-requires c κs = let r = is-read (c .before .before) in (c .before .before .before .before .before .before .before .before .before .before .pre .0, fits-text (now (c .before .before .before .before .before .before .before .before .before .before .args .text)) (c .before .before .before .before .before .before .before .before .before .before .args .end) (c .before .before .before .read .given .0 .0 .id) (r .fits), (r .values, r .read, r .long))
+store-pattern-requires c κs = let r = is-read (c .before .before .before) in (c .before .before .before .before .before .before .before .before .before .before .before .before .before .pre .0, fits-text (now (c .before .before .before .before .before .before .before .before .before .before .before .before .before .args .text)) (c .before .before .before .before .before .before .before .before .before .before .before .before .before .args .end) (c .before .before .before .before .read .given .0 .0 .id) (r .fits), (r .values, r .read))
 
 enum-known-read-2 : tie.Need-enum-known-read-2
 enum-known-read-2 c = search needs
@@ -41,18 +47,20 @@ same-length-2 : tie.Need-same-length-2
 same-length-2 c = search needs
 
 returns : tie.Need-returns
-returns c = λ m h. let r = is-read (c .before .before .before .before .before .before .before) in rw (pattern-good (now (c .before .before .before .before .before .before .before .before .before .before .before .before .before .before .before .args .text)) (c .before .before .before .before .before .before .before .before .before .before .before .before .before .before .before .args .end) (c .before .before .before .before .before .before .before .before .before .before .before .before .before .before .before .args .at) m (c .before .before .before .before .before .before .before .before .read .given .0 .0 .id) (r .values) (r .whole) (r .fits)) (c .before .before .before .before .store-pattern .ensures m (r .values) h (r .read))
+returns c = λ m h. let r = is-read (c .before .before .before .before .before .before .before .before) in rw (pattern-good (now (c .before .before .before .before .before .before .before .before .before .before .before .before .before .before .before .before .before .before .args .text)) (c .before .before .before .before .before .before .before .before .before .before .before .before .before .before .before .before .before .before .args .end) (c .before .before .before .before .before .before .before .before .before .before .before .before .before .before .before .before .before .before .args .at) m (c .before .before .before .before .before .before .before .before .before .read .given .0 .0 .id) (r .values) (r .whole) (r .fits)) (c .before .before .before .before .store-pattern .ensures m (r .values) h (r .read))
 
 returns-2 : tie.Need-returns-2
-returns-2 c = λ m h. rw (pattern-bad (now (c .before .before .before .before .before .before .before .before .args .text)) (c .before .before .before .before .before .before .before .before .args .end) (c .before .before .before .before .before .before .before .before .args .at) m _ (no-read c)) (refl, refl, refl)
+returns-2 c = λ m h. rw (pattern-bad (now (c .before .before .before .before .before .before .before .before .before .before .args .text)) (c .before .before .before .before .before .before .before .before .before .before .args .end) (c .before .before .before .before .before .before .before .before .before .before .args .at) m _ (no-read c)) (refl, refl, refl)
 
 pub pattern-line-spec : {M : Type 1} → statement M
 pattern-line-spec =
     tie.close
     (tie.spec
     slice-aggregate-line
+    slice-aggregate-read-pattern
     read-pattern-requires
     enum-known-read
+    slice-aggregate-store-pattern
     store-pattern-requires
     enum-known-read-2
     same-length

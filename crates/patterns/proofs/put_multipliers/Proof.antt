@@ -1,98 +1,68 @@
 -- `patterns::put_multipliers` meets its contract. Assumes nothing.
-use Prim.Native.Nat.{_<_}
+use Prim.Native.Nat.{_≤_}
 use native.Mathlib.Omega.{arith}
-use borrow.Author.Needs.{needs}
 use denote.Ref.{now}
-use mathlib.Core.Path.{_≡_, sym, ap, _∙_}
-use lib.ListN.{length}
-use Rattle.fields.specs.Fields.{fieldsAt}
-use Rattle.scope.specs.Values.{took, numberFrom}
-use Rattle.takers.specs.Taking.{tookNumber}
-use Rattle.patterns.proofs.StoringLaws.{took-one, Storing, start-storing, room-for, turn, ended}
+use mathlib.Core.Path.{_≡_, sym, _∙_}
+use lib.ListN.{length, drop}
+use lib.Seq.{length-take-le}
+use Rattle.patterns.proofs.StoringLaws.{kept-room, rest-room, put-kept, put-both}
+use borrow.Author.Needs.{needs}
 use Rattle.patterns.proofs.put_multipliers.Statement.{statement}
 use Rattle.patterns.proofs.put_multipliers.Tie as tie
 
-abbrev Inv-loop : tie.InvT-loop
-Inv-loop l at first pattern words₀ numbers₀ i₀ p₀ words numbers i p =
-    Storing (fieldsAt l at) (fieldsAt l p) first pattern words₀ words numbers₀ numbers i
+more : (c : tie.Else1) → length (now (c .before .before .before .before .before .args .first)) ≤ c .before .before .before .before .before .args .p .count
+more c = omega (arith, c .if1 .left)
 
-abbrev μ-loop : tie.MeasureT-loop
-μ-loop l at first pattern words₀ numbers₀ i₀ p₀ words numbers i p =
-    length (fieldsAt l p)
+slice-aggregate-put-numbers : tie.Need-slice-aggregate-put-numbers
+slice-aggregate-put-numbers c = sym (length-take-le (c .before .before .before .before .before .before .args .p .count) (now (c .before .before .before .before .before .before .args .first)) (c .before .if1 .taken))
 
-one : (c : tie.After-known-told Inv-loop μ-loop) → numberFrom (fieldsAt (now (c .before .before .before .before .before .before .before .before .args .l)) (c .before .before .before .before .loop .p)) ≡ took (c .before .t .given .0 .0) (fieldsAt (now (c .before .before .before .before .before .before .before .before .args .l)) (c .before .t .given .0 .1 .0))
-one c = sym (c .before .before .before .take-number .ensures) ∙ ap (tookNumber (now (c .before .before .before .before .before .before .before .before .args .l))) (c .before .t .given .1)
+put-numbers-requires : tie.Need-put-numbers-requires
+put-numbers-requires c κs = let p = c .before .before .before .before .before .before .before .before .pre in (kept-room (p .1) (c .before .before .before .before .before .before .before .before .args .k) (p .2) (c .before .before .before .if1 .taken), p .3, p .4)
 
-room : (c : tie.After-known-told Inv-loop μ-loop) → c .before .before .before .before .loop .i < 2048
-room c = room-for (c .before .before .before .before .loop .inv) _ _ (one c)
+same-length : tie.Need-same-length
+same-length c = search needs
 
-loop-holds : tie.Need-loop-holds Inv-loop μ-loop
-loop-holds c = start-storing (fieldsAt (now (c .before .before .before .args .l)) (c .before .before .before .args .at)) (c .before .before .before .args .first) (c .before .before .before .args .pattern) (now (c .before .before .before .args .words)) (now (c .before .before .before .args .numbers)) (c .before .before .before .pre .0) (c .before .before .before .pre .1) (c .before .before .before .pre .2) (c .before .before .before .pre .3) (c .before .before .before .pre .4)
+same-length-2 : tie.Need-same-length-2
+same-length-2 c = search needs
 
-take-number-requires : tie.Need-take-number-requires Inv-loop μ-loop
-take-number-requires c κs = search needs
+returns : tie.Need-returns
+returns c = λ xs g. let a = c .before .before .before .before .before .before .before .before .before .before .before .before .before .args in put-kept g (a .k) (a .pattern) (now (a .words)) (now (a .numbers)) (c .before .before .before .before .before .before .before .before .if1 .taken) (c .before .before .before .before .put-numbers .ensures)
 
-enum-known-t : tie.Need-enum-known-t Inv-loop μ-loop
-enum-known-t c = search needs
+put-numbers-requires-2 : tie.Need-put-numbers-requires-2
+put-numbers-requires-2 c κs = search needs
 
-enum-told : tie.Need-enum-told Inv-loop μ-loop
-enum-told c = search needs
+add-put-rest : tie.Need-add-put-rest
+add-put-rest c = search needs
 
-same-length : tie.Need-same-length Inv-loop μ-loop
-same-length c = c .before .before .before .loop .inv .words-long
+put-rest-requires : tie.Need-put-rest-requires
+put-rest-requires c κs =
+    let s = c .before .before .before .before .before .before .before .before .before .before .before .before .before .before in
+    let p = s .pre in
+    let longW : length (c .before .before .before .before .before .before .put-numbers2 .last .1 .1 .1 .0) ≡ length (now (s .args .words)) = c .before .before .before .before .before .before .put-numbers2 .kept .1 .1 .1 .0 in
+    let longN : length (c .before .before .before .before .before .before .put-numbers2 .last .1 .1 .1 .1 .0) ≡ length (now (s .args .numbers)) = c .before .before .before .before .before .before .put-numbers2 .kept .1 .1 .1 .1 .0 in
+    (drop (length (now (s .args .first))) (p .0), p .1 .left, rest-room (p .1) (s .args .k) (p .2) (more (c .before .before .before .before .before .before .before .before .before)), longW ∙ p .3, longN ∙ p .4)
 
-same-length-2 : tie.Need-same-length-2 Inv-loop μ-loop
-same-length-2 c = c .before .before .before .loop .inv .numbers-long
+same-length-3 : tie.Need-same-length-3
+same-length-3 c = search needs
 
-returns : tie.Need-returns Inv-loop μ-loop
-returns c = λ xs e. ended (c .before .before .before .loop .inv) (c .enum-told .given .0 .0) (sym (c .before .before .take-number .ensures) ∙ ap (tookNumber (now (c .before .before .before .before .before .before .before .args .l))) (c .enum-told .given .1)) xs e
+same-length-4 : tie.Need-same-length-4
+same-length-4 c = search needs
 
-add-words : tie.Need-add-words Inv-loop μ-loop
-add-words c = omega (arith, room c, c .before .before .before .before .loop .inv .words-room, c .before .before .before .before .loop .inv .numbers-room, c .before .before .before .before .loop .inv .words-long, c .before .before .before .before .loop .inv .numbers-long)
-
-mul-words : tie.Need-mul-words Inv-loop μ-loop
-mul-words c = omega (arith, room c, c .before .before .before .before .loop .inv .words-room, c .before .before .before .before .loop .inv .numbers-room, c .before .before .before .before .loop .inv .words-long, c .before .before .before .before .loop .inv .numbers-long)
-
-slice-write-words : tie.Need-slice-write-words Inv-loop μ-loop
-slice-write-words c = omega (arith, room c, c .before .before .before .before .loop .inv .words-room, c .before .before .before .before .loop .inv .numbers-room, c .before .before .before .before .loop .inv .words-long, c .before .before .before .before .loop .inv .numbers-long)
-
-add-numbers : tie.Need-add-numbers Inv-loop μ-loop
-add-numbers c = omega (arith, room c, c .before .before .before .before .loop .inv .words-room, c .before .before .before .before .loop .inv .numbers-room, c .before .before .before .before .loop .inv .words-long, c .before .before .before .before .loop .inv .numbers-long)
-
-mul-numbers : tie.Need-mul-numbers Inv-loop μ-loop
-mul-numbers c = omega (arith, room c, c .before .before .before .before .loop .inv .words-room, c .before .before .before .before .loop .inv .numbers-room, c .before .before .before .before .loop .inv .words-long, c .before .before .before .before .loop .inv .numbers-long)
-
-slice-write-numbers : tie.Need-slice-write-numbers Inv-loop μ-loop
-slice-write-numbers c = omega (arith, room c, c .before .before .before .before .loop .inv .words-room, c .before .before .before .before .loop .inv .numbers-room, c .before .before .before .before .loop .inv .words-long, c .before .before .before .before .loop .inv .numbers-long)
-
-add-i : tie.Need-add-i Inv-loop μ-loop
-add-i c = omega (arith, room c, c .before .before .before .before .loop .inv .words-room, c .before .before .before .before .loop .inv .numbers-room, c .before .before .before .before .loop .inv .words-long, c .before .before .before .before .loop .inv .numbers-long)
-
-loop-less : tie.Need-loop-less Inv-loop μ-loop
-loop-less c = omega (arith, took-one (fieldsAt (now (c .before .before .before .before .before .before .before .before .args .l)) (c .before .before .before .before .loop .p)) (fieldsAt (now (c .before .before .before .before .before .before .before .before .args .l)) (c .before .t .given .0 .1 .0)) (c .before .t .given .0 .0) (one c) .0)
-
-loop-again : tie.Need-loop-again Inv-loop μ-loop
-loop-again c = turn (c .before .before .before .before .loop .inv) (fieldsAt (now (c .before .before .before .before .before .before .before .before .args .l)) (c .before .t .given .0 .1 .0)) (c .before .t .given .0 .0) (one c)
+returns-2 : tie.Need-returns-2
+returns-2 c = λ xs g. let s = c .before .before .before .before .before .before .before .before .before .before .before .before .before .before .before .before .before .before .before in let p = s .pre in put-both g (s .args .k) (s .args .pattern) (now (s .args .words)) (now (s .args .numbers)) (more (c .before .before .before .before .before .before .before .before .before .before .before .before .before .before)) (p .3) (p .4) (omega (arith, g .long, p .1 .long, p .2)) (c .before .before .before .before .before .before .before .before .before .before .before .put-numbers2 .ensures) (c .before .before .before .before .put-rest .ensures _ (g .left))
 
 pub put-multipliers-spec : {M : Type 1} → statement M
 put-multipliers-spec =
     tie.close
     (tie.spec
-    Inv-loop
-    μ-loop
-    loop-holds
-    take-number-requires
-    enum-known-t
-    enum-told
+    slice-aggregate-put-numbers
+    put-numbers-requires
     same-length
     same-length-2
     returns
-    add-words
-    mul-words
-    slice-write-words
-    add-numbers
-    mul-numbers
-    slice-write-numbers
-    add-i
-    loop-less
-    loop-again)
+    put-numbers-requires-2
+    add-put-rest
+    put-rest-requires
+    same-length-3
+    same-length-4
+    returns-2)
