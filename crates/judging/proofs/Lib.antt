@@ -1,2 +1,2 @@
-pub mod GoingLaws
+pub mod SeeLaws
 pub mod JudgeLaws

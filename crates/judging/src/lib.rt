@@ -1,18 +1,16 @@
-// Judges a rule group before anything of it is stored: its lines, read one after another, make a sketch, and the sketch says whether the group is taken.
+// Judges a rule group: its lines, seen one after another, make a sketch, and the sketch says whether the group is taken.
 ghost use mathlib.Core.Path.{_≡_};
 ghost use mathlib.Core.List.{List};
 ghost use Prim.Native.Nat.{ℕ, _+_, _≤_, _<_};
 ghost use lib.ListN.{length};
-ghost use Rattle.scope.specs.Records.{Network};
+ghost use Rattle.scope.specs.Records.{Network, Clause, withClauses};
 ghost use Rattle.scope.specs.Values.{good, onRead};
-ghost use Rattle.scope.specs.Rules.{Draft, linesOf, noDraft, judged};
+ghost use Rattle.scope.specs.Rules.{Draft, noDraft, judged};
 ghost use Rattle.tables.specs.Holding.{Words};
-ghost use Rattle.headers.specs.Own.{groupFields};
 ghost use Rattle.rulelines.specs.Lines.{told, saidRead, LineFits};
 ghost use Rattle.judging.specs.Sketches.{Sketched, SketchAs, JudgedAs};
 use fields::Field;
 use fields::Span;
-use headers::OwnLine;
 use rulelines::LineRead;
 use scope::Counts;
 use scope::Found;
@@ -103,41 +101,6 @@ pub fn see(q: Sketch, read: LineRead) -> SketchRead
     }
 }
 
-// The lines of the group whose first line stands at `first`, in a text read up to `at`.
-pub fn judge_lines(text: &[u8], first: usize, at: usize, words: &[u64], links: usize) -> SketchRead
-    requires { ⌜ ((m : Network) × Words (now text) m (now words) × (links ≡ length (m .links))) ⌝ }
-    ensures { λ r. ⌜ ((m : Network) → Words (now (text .entry)) m (now (words .entry)) → links ≡ length (m .links)
-        → SketchAs (now (text .entry)) (linesOf m noDraft (groupFields (now (text .entry)) at first)) r) ⌝ }
-{
-    let mut q = no_sketch();
-    let mut p = first;
-    loop {
-        let own = headers::next_own(text, at, p);
-        let OwnLine::Line(s) = own else {
-            return SketchRead::Good(q);
-        };
-        let read = rulelines::read_line(
-            letters::cut(text, 0, s.end),
-            s.at,
-            q.acting,
-            q.otherwise,
-            text,
-            words,
-            links,
-        );
-        let seen = see(q, read);
-        match seen {
-            SketchRead::Good(next) => {
-                q = next;
-                p = s.end;
-            }
-            SketchRead::Refused(why) => {
-                return SketchRead::Refused(why);
-            }
-        }
-    }
-}
-
 // ---- the group
 
 pub enum Judged {
@@ -145,10 +108,10 @@ pub enum Judged {
     Refused(Reason),
 }
 
-// The group of that sketch: no condition, no action, no id, its id used, no room, in that order.
+// The group of that sketch: no condition, no action, no id, its id used, no room, in that order. Some of its clauses may stand in the words already.
 pub fn judge_group(text: &[u8], q: Sketch, words: &[u64], s: Counts) -> Judged
     requires { ⌜ ((m : Network) × Words (now text) m (now words) × (s .rules ≡ length (m .rules)) × (s .clauses ≤ 512)) ⌝ }
-    ensures { λ r. ⌜ ((m : Network) (d : Draft) → Words (now (text .entry)) m (now (words .entry)) → s .rules ≡ length (m .rules) → s .clauses ≡ length (m .clauses) → Sketched (now (text .entry)) d q
+    ensures { λ r. ⌜ ((m : Network) (cs : List Clause) (d : Draft) → Words (now (text .entry)) (withClauses cs m) (now (words .entry)) → s .rules ≡ length (m .rules) → s .clauses ≡ length (m .clauses) → Sketched (now (text .entry)) d q
         → JudgedAs (now (text .entry)) d m (judged d m) r) ⌝ }
 {
     if q.conditions {

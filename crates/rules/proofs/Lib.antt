@@ -1,2 +1,4 @@
+pub mod GoingLaws
+pub mod EraseLaws
 pub mod GroupLaws
 pub mod Actions

@@ -1,12 +1,15 @@
-// Closes a rule group: its stretch of text is read again, line by line, first to judge it and then to store its clauses, and the rule after them.
+// Closes a rule group: its stretch of text is read again, line by line, and each clause is stored as its line is read. Then the group is judged: its rule is stored, or its
+// clauses are erased again.
 ghost use mathlib.Core.Path.{_≡_};
-ghost use mathlib.Core.List.{[], _∷_};
-ghost use Prim.Native.Nat.{_+_, _*_, _<_};
+ghost use mathlib.Core.List.{List, [], _∷_};
+ghost use Prim.Native.Nat.{ℕ, _+_, _-_, _*_, _≤_, _<_, min};
 ghost use lib.ListN.{length};
-ghost use Rattle.scope.specs.Records.{Network};
+ghost use lib.Ieee.{Float};
+ghost use Rattle.scope.specs.declared.Counts.{Counts};
+ghost use Rattle.scope.specs.Records.{Network, Clause};
 ghost use Rattle.scope.specs.Records as clause;
 ghost use Rattle.scope.specs.Tables.{valueNo, nameWords, valueNumber, countWords, ruleWords};
-ghost use Rattle.scope.specs.Rules.{Draft, judged, groupStep};
+ghost use Rattle.scope.specs.Rules.{Draft, linesOf, noDraft, judged, groupStep};
 ghost use Rattle.tables.specs.Table.{splice};
 ghost use Rattle.tables.specs.Layout.{rulesAt, ruleSize, clausesAt, clauseSize, clauseNumbersAt};
 ghost use Rattle.tables.specs.Holding.{Holds, Sound, After};
@@ -14,7 +17,7 @@ ghost use Rattle.clauses.specs.Clauses.{optIn, conditionIn};
 ghost use Rattle.headers.specs.Own.{groupFields};
 ghost use Rattle.rulelines.specs.Lines.{actionIn};
 ghost use Rattle.judging.specs.Sketches.{rankIn};
-ghost use Rattle.rules.specs.Group.{ruleIn, Room, PutClause, Put, Started, HoldsMore, Sketching};
+ghost use Rattle.rules.specs.Group.{ruleIn, PutClause, Put, HoldsMore, fitting, Taken, Written};
 use fields::Field;
 use fields::Span;
 use headers::OwnLine;
@@ -95,11 +98,14 @@ fn put_action(text: &[u8], a: Action, n: usize, words: &mut [u64], numbers: &mut
     );
 }
 
-// The clause of a line, where it has one, at the place `n`.
+// The clause of a line, where it has one, at the place `n`, where there is room.
 fn put_line(text: &[u8], read: LineRead, n: usize, words: &mut [u64], numbers: &mut [f64])
-    requires { ⌜ Room n read × (length (now words) ≡ 17128) × (length (now numbers) ≡ 8192) ⌝ }
+    requires { ⌜ (length (now words) ≡ 17128) × (length (now numbers) ≡ 8192) ⌝ }
     ensures { λ _. ⌜ Put (now (text .entry)) n read (now (words .entry)) (now (numbers .entry)) (now (words .exit)) (now (numbers .exit)) ⌝ }
 {
+    if 512 <= n {
+        return;
+    }
     match read {
         LineRead::Named(_) => {}
         LineRead::Ranked(_) => {}
@@ -114,18 +120,44 @@ fn put_line(text: &[u8], read: LineRead, n: usize, words: &mut [u64], numbers: &
     }
 }
 
-// The clauses of a group that was judged good, after those that are there.
-fn put_clauses(
+// Where the clauses of a group end that has `count` of them, after `base` others.
+fn clauses_end(base: usize, count: usize) -> usize
+    requires { ⌜ base ≤ 512 ⌝ }
+    ensures { λ r. ⌜ r ≡ base + min (512 - base) count ⌝ }
+{
+    if count < 512 - base {
+        return base + count;
+    }
+    512
+}
+
+// The clauses of a group are erased: `count` of them, after `base` others.
+fn erase_clauses(base: usize, count: usize, words: &mut [u64], numbers: &mut [f64])
+    requires { ⌜ (base ≤ 512) × (length (now words) ≡ 17128) × (length (now numbers) ≡ 8192) ⌝ }
+    ensures { λ _. ⌜ ((text : List ℕ) (m : Network) (s : Counts) (w : List ℕ) (f : List Float) (cs : List Clause) → Holds text m s w f → base ≡ length (m .clauses) → length cs ≡ count
+        → HoldsMore text m (fitting m cs) (now (words .entry)) (now (numbers .entry)) → (now (words .exit) ≡ w) × (now (numbers .exit) ≡ f)) ⌝ }
+{
+    let end = clauses_end(base, count);
+    let from = tables::CLAUSES + base * tables::CLAUSE_WORDS;
+    let to = tables::CLAUSES + end * tables::CLAUSE_WORDS;
+    tables::clear_words(&mut words[from..to]);
+    let low = tables::CLAUSE_NUMBERS + base;
+    let high = tables::CLAUSE_NUMBERS + end;
+    tables::clear_numbers(&mut numbers[low..high]);
+}
+
+// The lines of the group whose first line stands at `first`, in a text read up to `at`. Their clauses are put after those that are there; where a line is refused, none is left.
+fn take_lines(
     text: &[u8],
     first: usize,
     at: usize,
     s: Counts,
     words: &mut [u64],
     numbers: &mut [f64],
-)
-    requires { ⌜ ((m : Network) × (d : Draft) × Started (now text) at first m d (s .clauses) (s .links) (now words) (now numbers)) ⌝ }
-    ensures { λ _. ⌜ ((m : Network) (d : Draft) → Started (now (text .entry)) at first m d (s .clauses) (s .links) (now (words .entry)) (now (numbers .entry))
-        → HoldsMore (now (text .entry)) m (d .clauses) (now (words .exit)) (now (numbers .exit))) ⌝ }
+) -> SketchRead
+    requires { ⌜ Sound (now text) s (now words) (now numbers) ⌝ }
+    ensures { λ r. ⌜ ((m : Network) → Holds (now (text .entry)) m s (now (words .entry)) (now (numbers .entry))
+        → Taken (now (text .entry)) m (linesOf m noDraft (groupFields (now (text .entry)) at first)) r (now (words .entry)) (now (numbers .entry)) (now (words .exit)) (now (numbers .exit))) ⌝ }
 {
     let base = s.clauses;
     let links = s.links;
@@ -134,7 +166,7 @@ fn put_clauses(
     loop {
         let own = headers::next_own(text, at, p);
         let OwnLine::Line(line) = own else {
-            return;
+            return SketchRead::Good(q);
         };
         let read = rulelines::read_line(
             letters::cut(text, 0, line.end),
@@ -147,11 +179,16 @@ fn put_clauses(
         );
         put_line(text, read, base + q.clauses, words, numbers);
         let seen = judging::see(q, read);
-        let SketchRead::Good(next) = seen else {
-            return;
-        };
-        q = next;
-        p = line.end;
+        match seen {
+            SketchRead::Good(next) => {
+                q = next;
+                p = line.end;
+            }
+            SketchRead::Refused(why) => {
+                erase_clauses(base, q.clauses, words, numbers);
+                return SketchRead::Refused(why);
+            }
+        }
     }
 }
 
@@ -183,30 +220,25 @@ fn put_rule(text: &[u8], id: Span, q: Sketch, s: Counts, words: &mut [u64])
     );
 }
 
-fn store_group(
-    text: &[u8],
-    first: usize,
-    at: usize,
-    q: Sketch,
-    s: Counts,
-    words: &mut [u64],
-    numbers: &mut [f64],
-) -> Kept
-    requires { ⌜ ((m : Network) × (d : Draft) × Sketching (now text) at first m d q s (now words) (now numbers)) ⌝ }
-    ensures { λ r. ⌜ ((m : Network) (d : Draft) → Sketching (now (text .entry)) at first m d q s (now (words .entry)) (now (numbers .entry))
-        → After (now (text .entry)) (judged d m) r (now (words .entry)) (now (numbers .entry)) (now (words .exit)) (now (numbers .exit))) ⌝ }
+// The rule of a group whose clauses are there; where the group is refused, they are erased.
+fn store_group(text: &[u8], q: Sketch, s: Counts, words: &mut [u64], numbers: &mut [f64]) -> Kept
+    requires { ⌜ ((m : Network) × (d : Draft) × (w : List ℕ) × (f : List Float) × Written (now text) m d q s w f (now words) (now numbers)) ⌝ }
+    ensures { λ r. ⌜ ((m : Network) (d : Draft) (w : List ℕ) (f : List Float) → Written (now (text .entry)) m d q s w f (now (words .entry)) (now (numbers .entry))
+        → After (now (text .entry)) (judged d m) r w f (now (words .exit)) (now (numbers .exit))) ⌝ }
 {
     let answer = judging::judge_group(text, q, words, s);
     match answer {
         Judged::Good(id) => {
-            put_clauses(text, first, at, s, words, numbers);
             put_rule(text, id, q, s, words);
             let mut t = s;
             t.rules = s.rules + 1;
             t.clauses = s.clauses + q.clauses;
             Kept::Stored(t)
         }
-        Judged::Refused(why) => Kept::Refused(why),
+        Judged::Refused(why) => {
+            erase_clauses(s.clauses, q.clauses, words, numbers);
+            Kept::Refused(why)
+        }
     }
 }
 
@@ -223,9 +255,9 @@ pub fn close_group(
     ensures { λ r. ⌜ ((m : Network) → Holds (now (text .entry)) m s (now (words .entry)) (now (numbers .entry))
         → After (now (text .entry)) (groupStep (groupFields (now (text .entry)) at first) m) r (now (words .entry)) (now (numbers .entry)) (now (words .exit)) (now (numbers .exit))) ⌝ }
 {
-    let read = judging::judge_lines(text, first, at, words, s.links);
+    let read = take_lines(text, first, at, s, words, numbers);
     match read {
-        SketchRead::Good(q) => store_group(text, first, at, q, s, words, numbers),
+        SketchRead::Good(q) => store_group(text, q, s, words, numbers),
         SketchRead::Refused(why) => Kept::Refused(why),
     }
 }

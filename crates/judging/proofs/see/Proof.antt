@@ -5,7 +5,7 @@ use Rattle.fields.specs.Fields.{Fits, fieldsAt, nameIn, part}
 use Rattle.rulelines.specs.Lines.{actionIn, saidId, saidRank, saidCondition, saidAction, told, LineFits}
 use Rattle.rulelines.specs.declared.LineRead.{LineRead}
 use Rattle.clauses.specs.Clauses.{conditionIn}
-use Rattle.judging.proofs.GoingLaws.{see-id, see-rank, see-condition, see-action}
+use Rattle.judging.proofs.SeeLaws.{see-id, see-rank, see-condition, see-action}
 use borrow.Author.Needs.{needs}
 use Rattle.judging.proofs.see.Statement.{statement}
 use Rattle.judging.proofs.see.Tie as tie
