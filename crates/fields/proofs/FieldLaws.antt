@@ -8,9 +8,9 @@ use mathlib.Core.Path.{_≡_, refl, sym, ap, ap₂, _∙_, subst}
 use mathlib.Core.Bool.{Bool, true, false, cond, not}
 use mathlib.Core.List.{List, [], _∷_, map}
 use lib.ListN.{length, take, drop, getD, length-drop, length-take, drop-of-length-le}
-use lib.Seq.{drop-cons, drop-drop, take-take, take-nil, getD-drop}
+use lib.Seq.{drop-cons, drop-drop, take-take, getD-drop}
 use Rattle.digits.specs.Ends.{wordLen}
-use Rattle.scans.specs.Lines.{isSpace, startTrimmed, cutOf}
+use Rattle.scans.specs.Lines.{isSpace, cutOf}
 use Rattle.scans.specs.Scan.{spanLen}
 use Rattle.scans.specs.declared.Kind.the-variants.{Space, Word}
 use Rattle.fields.specs.Fields.{Name, part, nameIn, onFirst, before, fieldsOf, fieldsAt, startAt, rest, endOr, Fits, Next, Past}
@@ -18,8 +18,8 @@ use Rattle.fields.specs.declared.Span.{Span}
 use Rattle.fields.specs.declared.Field.{Field}
 use Rattle.fields.specs.declared.Field.the-variants.{Taken, Nothing}
 use Rattle.scans.proofs.ScanLaws.{span-le, span-stop}
-use Rattle.scans.proofs.LineLaws.{start-at, cut-prefix}
-pub use Rattle.scans.proofs.ScanLaws.{length-part}
+use Rattle.scans.proofs.LineLaws.{cut-prefix}
+pub use Rattle.scans.proofs.ScanLaws.{length-part, drop-take}
 
 -- whitespace before the fields is passed over
 pub fields-skip : (at : ℕ) (l : List ℕ) → fieldsOf at l ≡ fieldsOf (at + spanLen Space l) (drop (spanLen Space l) l)
@@ -153,32 +153,6 @@ next-unique l at (Taken s) Nothing n m = let q = sym (n .taken s refl .0) ∙ m 
 next-unique l at Nothing (Taken t) n m = let q = sym (n .nothing refl) ∙ m .taken t refl .0 in let z : _≡_ {A = ℕ} 0 1 = cc in absurd (omega arith)
 next-unique l at Nothing Nothing n m = refl
 
--- ---- where the next field starts: with what is left of the line, its start trimmed
-module _ (l : List ℕ) (at : ℕ) (f : Field) (n : Next l at f) where
-  abbrev start : ℕ
-  start = startAt l at
-
-  none-left : drop start l ≡ [] → fieldsAt l at ≡ []
-  unfolding fieldsOf
-  none-left e = skipped l at start 0 refl ∙ ap (fieldsOf start) e
-
-  some-left : (b : ℕ) (bs : List ℕ) → drop start l ≡ b ∷ bs → f ≡ Taken (record { at = start; end = start + spanLen Word (drop start l) })
-  some-left b bs h = next-unique l at f _ n (next-taken l at start _ refl (omega (arith, ap length h, length-drop start l)) refl)
-
-  pub start-taken : (s : Span) → f ≡ Taken s → startTrimmed (drop at l) ≡ drop (s .at) l
-  start-taken s e = start-at l at start refl ∙ go (drop start l) refl
-    where
-      go : (d : List ℕ) → drop start l ≡ d → drop start l ≡ drop (s .at) l
-      go [] h = let q = sym (n .taken s e .0) ∙ none-left h in let z : _≡_ {A = ℕ} 0 1 = cc in absurd (omega arith)
-      go (b ∷ bs) h = let q = sym e ∙ some-left b bs h in let k : s .at ≡ start = cc in rw k
-
-  pub start-nothing : f ≡ Nothing → startTrimmed (drop at l) ≡ []
-  start-nothing e = start-at l at start refl ∙ go (drop start l) refl
-    where
-      go : (d : List ℕ) → drop start l ≡ d → d ≡ []
-      go [] h = refl
-      go (b ∷ bs) h = let q = sym e ∙ some-left b bs h in let z : _≡_ {A = ℕ} 0 1 = cc in absurd (omega arith)
-
 -- ---- where fields stand
 -- a name stands in the text, not before the place `from`, and is not empty
 pub record Stands (text : List ℕ) (from : ℕ) (n : Name) : Type 0 where
@@ -246,12 +220,6 @@ module _ (text : List ℕ) where
       two at b x xs (isSpace b) (isSpace x) refl refl e (ordered (suc at) (x ∷ xs) e1) (ordered (suc (suc at)) xs (shorter (suc at) x xs e1))
 
 -- ---- a line that is cut
-pub drop-take : (a e : ℕ) (l : List ℕ) → drop a (take e l) ≡ part a e l
-drop-take zero e l = rw sub-zero
-drop-take (suc a) zero l = rw zero-sub
-drop-take (suc a) (suc e) [] = rw take-nil
-drop-take (suc a) (suc e) (x ∷ l) = rw suc-sub-suc (drop-take a e l)
-
 -- the fields of the bytes c, which stand in the text at the place `at`
 pub fields-cut : (text c : List ℕ) (at : ℕ) → take (length c) (drop at text) ≡ c → fieldsAt (take (at + length c) text) at ≡ fieldsOf at c
 fields-cut text c at e =

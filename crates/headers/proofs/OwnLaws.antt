@@ -2,12 +2,13 @@
 use Prim.Native.Nat.{ℕ, zero, suc, _+_, _-_, _≤_, _<_}
 use native.Mathlib.Omega.{arith}
 use native.Mathlib.Nat.{add-zero, add-assoc}
-use borrow.Author.Tests.{ne-eqb}
+use borrow.Author.Tests.{eqb-false, ne-eqb, ltb-true, ltb-false}
 use mathlib.Core.Path.{_≡_, refl, sym, ap, ap₂, _∙_, subst}
-use mathlib.Core.Bool.{Bool, true, false, cond}
+use mathlib.Core.Bool.{Bool, true, false, cond, not, _||_, false≢true}
 use mathlib.Core.List.{List, [], _∷_, _++_, map, append-assoc, append-nil, map-append}
 use lib.ListN.{length, take, drop, getD, length-append, length-take, length-drop, drop-of-length-le}
 use lib.Seq.{drop-cons, take-length, take-all}
+use lib.Dec.{eqb, ltb}
 use Rattle.digits.specs.Bytes.{classOf}
 use Rattle.fields.specs.Fields.{Name, part, fieldsOf, fieldsAt, startAt}
 use Rattle.scans.specs.Lines.{chunks, joined, lineLen, startTrimmed, trimmed, kindBy}
@@ -27,7 +28,7 @@ use Rattle.scope.specs.declared.Section.the-variants.{Junctions, Reservoirs, Ta
 use Rattle.scope.specs.Spelling.{wordRule}
 use Rattle.scope.specs.Sections.{sectionOf, isRules}
 use Rattle.scope.specs.Lines.{sortBy, sortOf, ruleFields}
-use Rattle.headers.specs.Own.{ownFields, groupFields, OwnHere, OwnFrom, NextHere, NextOwn}
+use Rattle.headers.specs.Own.{plainBy, ownFields, groupFields, OwnHere, OwnFrom, NextHere, NextOwn}
 use Rattle.headers.specs.declared.OwnLine.{OwnLine}
 use Rattle.headers.specs.declared.OwnLine.the-variants as own
 
@@ -83,6 +84,42 @@ module _ (l : List ℕ) (at i : ℕ) (es : i ≡ startAt l at) where
     pub sort-other : (first ≡ 59 → ⊥) → (first ≡ 91 → ⊥) → (first ≡ 82 → ⊥) → L.other ≡ sortOf (drop at l)
     unfolding sortBy
     sort-other b a r = sym (ap (λ (t : Bool). cond t L.start L.other) (no-rule r)) ∙ sort-plain (rw (ne-eqb first 59 b, ne-eqb first 91 a))
+
+    -- told by that byte alone
+    plain-is : plainBy (startTrimmed (drop at l)) ≡ not (eqb first 59 || (eqb first 91 || eqb first 82))
+    plain-is = ap plainBy (start-at l at i es ∙ drop-cons l i 0 h)
+
+    pub plain-blank : first ≡ 59 → false ≡ plainBy (startTrimmed (drop at l))
+    plain-blank e = sym (plain-is ∙ rw e)
+
+    pub plain-header : first ≡ 91 → false ≡ plainBy (startTrimmed (drop at l))
+    plain-header e = sym (plain-is ∙ rw e)
+
+    pub plain-rule : first ≡ 82 → false ≡ plainBy (startTrimmed (drop at l))
+    plain-rule e = sym (plain-is ∙ rw e)
+
+    pub plain-other : (first ≡ 59 → ⊥) → (first ≡ 91 → ⊥) → (first ≡ 82 → ⊥) → true ≡ plainBy (startTrimmed (drop at l))
+    plain-other b a r = sym (plain-is ∙ rw (ne-eqb first 59 b, ne-eqb first 91 a, ne-eqb first 82 r))
+
+    plain-so : plainBy (startTrimmed (drop at l)) ≡ true → L.other ≡ sortOf (drop at l)
+    plain-so z = go (eqb first 59) (eqb first 91) (eqb first 82) refl refl refl (sym plain-is ∙ z)
+      where
+        go : (x y w : Bool) → eqb first 59 ≡ x → eqb first 91 ≡ y → eqb first 82 ≡ w → not (x || (y || w)) ≡ true → L.other ≡ sortOf (drop at l)
+        go true y w ex ey ew q = absurd (false≢true q)
+        go false true w ex ey ew q = absurd (false≢true q)
+        go false false true ex ey ew q = absurd (false≢true q)
+        go false false false ex ey ew q = sort-other (eqb-false first 59 ex) (eqb-false first 91 ey) (eqb-false first 82 ew)
+
+  pub plain-nothing : length l ≤ i → false ≡ plainBy (startTrimmed (drop at l))
+  plain-nothing h = sym (ap plainBy (start-at l at i es ∙ drop-of-length-le l h))
+
+  -- such a line is no other
+  pub plain-sort : plainBy (startTrimmed (drop at l)) ≡ true → L.other ≡ sortOf (drop at l)
+  plain-sort z = go (ltb i (length l)) refl
+    where
+      go : (t : Bool) → ltb i (length l) ≡ t → L.other ≡ sortOf (drop at l)
+      go true e = plain-so (ltb-true i (length l) e) z
+      go false e = absurd (false≢true (plain-nothing (ltb-false i (length l) e) ∙ z))
 
 -- a line of RULES that is the group's own leaves the section as it is
 rules-only : (s : Section) → isRules s ≡ true → s ≡ Rules

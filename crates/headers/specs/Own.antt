@@ -2,9 +2,10 @@
 -- lines of other sections may stand between." Assumes nothing.
 use Prim.Native.Nat.{ℕ, _+_, _≤_, _<_}
 use mathlib.Core.Path.{_≡_}
-use mathlib.Core.Bool.{cond}
+use mathlib.Core.Bool.{Bool, false, cond, not, _||_}
 use mathlib.Core.List.{List, [], _∷_, _++_}
 use lib.ListN.{length, take, drop}
+use lib.Dec.{eqb}
 use Rattle.fields.specs.Fields.{Name, fieldsOf, fieldsAt}
 use Rattle.scans.specs.Lines.{chunks}
 use Rattle.fields.specs.declared.Span.{Span}
@@ -24,6 +25,11 @@ sortIn Empty = L.empty
 sortIn (Heading s) = L.heading s
 sortIn Start = L.start
 sortIn Other = L.other
+
+-- a line, its start trimmed, whose first byte tells that it is neither blank nor a header and starts no group: no `;`, no `[`, no R
+abbrev pub plainBy : List ℕ → Bool
+plainBy [] = false
+plainBy (b ∷ bs) = not (eqb b 59 || (eqb b 91 || eqb b 82))
 
 -- the fields of a group's lines, among lines that are placed from p on and start in section s
 unfoldable pub ownFields : Section → ℕ → List (List ℕ) → List (List Name)

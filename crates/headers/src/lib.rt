@@ -2,11 +2,12 @@
 ghost use mathlib.Core.Path.{_≡_};
 ghost use lib.ListN.{drop};
 ghost use Rattle.scans.specs.declared.LineKind.the-variants as kind;
+ghost use Rattle.scans.specs.Lines.{startTrimmed};
 ghost use Rattle.lines.specs.Stretch.{secBy, ownBy};
 ghost use Rattle.scope.specs.Sections.{sectionOf, isRules};
 ghost use Rattle.scope.specs.Lines.{sortBy, sortOf};
 ghost use Rattle.headers.specs.Sections.{linkSection, seriesSection, otherSection};
-ghost use Rattle.headers.specs.Own.{sortIn, OwnFrom, NextOwn};
+ghost use Rattle.headers.specs.Own.{sortIn, plainBy, OwnFrom, NextOwn};
 use fields::Span;
 use scope::Section;
 
@@ -109,6 +110,23 @@ pub fn sort_of(l: &[u8], at: usize) -> Sort
         91 => Sort::Heading(section_of(scans::trimmed(&l[start..]))),
         82 => plain_sort(&l[start..]),
         _ => Sort::Other,
+    }
+}
+
+// Whether the first byte of the line of `l` from `at` on tells that it is neither blank nor a header and starts no group. It does of most lines, and `sort_of` is
+// too long for the compiler to put it where it is called.
+pub fn is_plain(l: &[u8], at: usize) -> bool
+    ensures { λ r. ⌜ r ≡ plainBy (startTrimmed (drop at (now (l .entry)))) ⌝ }
+{
+    let start = fields::field_start(l, at);
+    if l.len() <= start {
+        return false;
+    }
+    match l[start] {
+        59 => false,
+        91 => false,
+        82 => false,
+        _ => true,
     }
 }
 

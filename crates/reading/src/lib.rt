@@ -16,6 +16,7 @@ use scope::Answer;
 use scope::Counts;
 use scope::Reason;
 use steps::State;
+use tables::Kept;
 
 // The room of the text, and of the words with the counts after the records.
 pub const ROOM_TEXT: usize = 65536;
@@ -37,18 +38,44 @@ fn run(text: &[u8], words: &mut [u64], numbers: &mut [f64]) -> Strict
 {
     let mut s = State::new();
     while s.at < text.len() {
-        let t = steps::step(text, s, words, numbers);
-        let k = t.reason;
-        s = t.state;
-        if k != 0 {
+        let at = s.at;
+        let section = s.section;
+        let stop = scans::line_stop(text, at);
+        let ends = scans::ends_from(text, stop);
+        let e = ends.end;
+        // Most lines are stored at once: the state need not be handed on to be changed.
+        if steps::is_filed(&text[..e], at, section) {
             let counts = s.counts;
-            return Strict {
-                answer: Answer {
-                    number: k,
-                    line: t.piece,
-                },
-                counts,
-            };
+            let kept = sections::store_line(section, text, at, ends.cut, counts, words, numbers);
+            match kept {
+                Kept::Stored(c) => {
+                    s = s.moved(section, c, e);
+                }
+                Kept::Refused(why) => {
+                    return Strict {
+                        answer: Answer {
+                            number: steps::reason_number(why),
+                            line: s.line + 1,
+                        },
+                        counts,
+                    };
+                }
+            }
+        } else {
+            let k = headers::sort_of(&text[..e], at);
+            let t = steps::take_turn(text, s, e, ends.cut, k, words, numbers);
+            let no = t.reason;
+            s = t.state;
+            if no != 0 {
+                let counts = s.counts;
+                return Strict {
+                    answer: Answer {
+                        number: no,
+                        line: t.piece,
+                    },
+                    counts,
+                };
+            }
         }
     }
     let counts = s.counts;

@@ -2,50 +2,46 @@
 use Prim.Native.Nat.{ℕ, zero, suc, _+_, _-_, _≤_, _<_}
 use native.Mathlib.Omega.{arith}
 use mathlib.Core.Path.{_≡_, refl, sym, ap, _∙_}
-use mathlib.Core.Bool.{Bool, true, false, cond, not}
+use mathlib.Core.Bool.{Bool, true, false, cond, not, _||_}
 use mathlib.Core.List.{List, [], _∷_, _++_}
 use lib.ListN.{length, take, drop, getD, length-drop, drop-of-length-le}
-use native.Mathlib.Nat.{le-of-lt}
-use lib.Seq.{drop-cons, drop-drop, drop-length, length-take-le, take-all, take-nil, take-suc, getD-drop}
+use lib.Seq.{drop-cons, drop-drop, length-take-le, take-all, take-suc, getD-drop}
 use lib.Dec.{eqb}
 use Rattle.scans.specs.Lines.{isSpace, push, chunks, joined, lineLen, startTrimmed, keepByte, endTrimmed, trimmed, kindBy, lineKind, cutOf}
-use Rattle.scans.specs.Scan.{spanLen, Skips}
-use Rattle.scans.specs.declared.Kind.the-variants.{Space, Kept, Line}
+use Rattle.scans.specs.Scan.{spanLen, clearLen}
+use Rattle.scans.specs.declared.Kind.the-variants.{Space}
 use Rattle.scans.specs.declared.LineKind.the-variants.{Blank}
-use Rattle.scans.proofs.ScanLaws.{span-stop, skip-past}
+use Rattle.scans.proofs.ScanLaws.{span-stop}
 
 -- ---- the first line of a text
 -- a line with a line feed, and a last line that lacks it
-line-fed : (l : List ℕ) → spanLen Line l < length l → lineLen l ≡ suc (spanLen Line l)
-unfolding lineLen spanLen
+line-fed : (l : List ℕ) → clearLen 10 10 l < length l → lineLen l ≡ suc (clearLen 10 10 l)
+unfolding lineLen clearLen
 line-fed [] h = absurd (omega arith)
 line-fed (b ∷ bs) h = go (eqb b 10) h (line-fed bs)
   where
-    go : (t : Bool) → cond (not t) (suc (spanLen Line bs)) 0 < suc (length bs) → (spanLen Line bs < length bs → lineLen bs ≡ suc (spanLen Line bs))
-        → suc (cond t 0 (lineLen bs)) ≡ suc (cond (not t) (suc (spanLen Line bs)) 0)
+    go : (t : Bool) → cond (t || t) 0 (suc (clearLen 10 10 bs)) < suc (length bs) → (clearLen 10 10 bs < length bs → lineLen bs ≡ suc (clearLen 10 10 bs))
+        → suc (cond t 0 (lineLen bs)) ≡ suc (cond (t || t) 0 (suc (clearLen 10 10 bs)))
     go true h f = refl
     go false h f = ap suc (f (omega arith))
 
-line-last : (l : List ℕ) → length l ≤ spanLen Line l → lineLen l ≡ spanLen Line l
-unfolding lineLen spanLen
+line-last : (l : List ℕ) → length l ≤ clearLen 10 10 l → lineLen l ≡ clearLen 10 10 l
+unfolding lineLen clearLen
 line-last [] h = refl
 line-last (b ∷ bs) h = go (eqb b 10) h (line-last bs)
   where
-    go : (t : Bool) → suc (length bs) ≤ cond (not t) (suc (spanLen Line bs)) 0 → (length bs ≤ spanLen Line bs → lineLen bs ≡ spanLen Line bs)
-        → suc (cond t 0 (lineLen bs)) ≡ cond (not t) (suc (spanLen Line bs)) 0
+    go : (t : Bool) → suc (length bs) ≤ cond (t || t) 0 (suc (clearLen 10 10 bs)) → (length bs ≤ clearLen 10 10 bs → lineLen bs ≡ clearLen 10 10 bs)
+        → suc (cond t 0 (lineLen bs)) ≡ cond (t || t) 0 (suc (clearLen 10 10 bs))
     go true h f = absurd (omega arith)
     go false h f = ap suc (f (omega arith))
 
--- where the line ends, by where its line feed is looked for and where it stands
-module _ (l : List ℕ) (at i e : ℕ) (s : Skips l at 10 i) (es : e ≡ i + spanLen Line (drop i l)) where
-  feed : e ≡ at + spanLen Line (drop at l)
-  feed = es ∙ skip-past 10 Line (λ x h. ap not h) s
-
+-- where the line ends, by where its line feed stands
+module _ (l : List ℕ) (at e : ℕ) (es : e ≡ at + clearLen 10 10 (drop at l)) where
   pub end-fed : e < length l → e + 1 ≡ at + lineLen (drop at l)
-  end-fed h = omega (arith, feed, line-fed (drop at l) (omega (arith, feed, length-drop at l)))
+  end-fed h = omega (arith, line-fed (drop at l) (omega (arith, length-drop at l)))
 
   pub end-last : length l ≤ e → e ≡ at + lineLen (drop at l)
-  end-last h = omega (arith, feed, line-last (drop at l) (omega (arith, feed, length-drop at l)))
+  end-last h = omega (arith, line-last (drop at l) (omega (arith, length-drop at l)))
 
 pub lineLen-le : (l : List ℕ) → lineLen l ≤ length l
 unfolding lineLen
@@ -210,19 +206,6 @@ module _ (l : List ℕ) (at i : ℕ) (es : i ≡ at + spanLen Space (drop at l))
   kind-none h = sym (ap (λ x. kindBy (endTrimmed x)) (start-at ∙ drop-of-length-le l h))
 
 -- ---- the cut
-cut-span : (l : List ℕ) → spanLen Kept l ≡ length (cutOf l)
-unfolding spanLen cutOf
-cut-span [] = refl
-cut-span (b ∷ bs) = go (eqb b 59) (cut-span bs)
-  where
-    go : (t : Bool) → spanLen Kept bs ≡ length (cutOf bs) → cond (not t) (suc (spanLen Kept bs)) 0 ≡ length (cond t [] (b ∷ cutOf bs))
-    go true e = refl
-    go false e = ap suc e
-
--- from a place r of l up to which no `;` stands
-pub cut-past : {l : List ℕ} {at r : ℕ} → Skips l at 59 r → r + spanLen Kept (drop r l) ≡ at + length (cutOf (drop at l))
-cut-past {l} {at} s = skip-past 59 Kept (λ x h. ap not h) s ∙ ap (at +_) (cut-span (drop at l))
-
 -- what is kept stands at the start
 pub cut-prefix : (l : List ℕ) → take (length (cutOf l)) l ≡ cutOf l
 unfolding cutOf

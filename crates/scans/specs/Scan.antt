@@ -1,37 +1,43 @@
 -- What the scans promise: no rule of document 01 names them. Assumes nothing.
-use Prim.Native.Nat.{ℕ, suc, _-_, _≤_}
-use mathlib.Core.Path.{_≡_}
-use mathlib.Core.Bool.{Bool, false, cond, not, _||_}
+use Prim.Native.Nat.{ℕ, suc, _+_, _-_, _*_}
+use mathlib.Core.Bool.{Bool, cond, not, _||_}
 use mathlib.Core.List.{List, [], _∷_}
 use lib.Dec.{eqb}
-use lib.ListN.{length, take, drop}
+use lib.ListN.{take, drop}
 use Rattle.scans.specs.Lines.{isSpace}
 use Rattle.scans.specs.declared.Kind.{Kind}
-use Rattle.scans.specs.declared.Kind.the-variants.{Space, Word, Kept, Line}
+use Rattle.scans.specs.declared.Kind.the-variants.{Space, Word}
 
--- a byte of the kind: whitespace; any other; no `;`; no line feed
+-- a byte of the kind: whitespace; any other
 abbrev pub isKind : Kind → ℕ → Bool
 isKind Space b = isSpace b
 isKind Word b = not (isSpace b)
-isKind Kept b = not (eqb b 59)
-isKind Line b = not (eqb b 10)
 
 -- how many bytes of the kind stand at the start
 unfoldable pub spanLen : Kind → List ℕ → ℕ
 spanLen k [] = 0
 spanLen k (b ∷ bs) = cond (isKind k b) (suc (spanLen k bs)) 0
 
--- the byte b stands in the text
-unfoldable pub has : ℕ → List ℕ → Bool
-has b [] = false
-has b (x ∷ xs) = eqb x b || has b xs
-
 -- the bytes of l from place a up to place e
 abbrev pub part : ℕ → ℕ → List ℕ → List ℕ
 part a e l = take (e - a) (drop a l)
 
--- r is a place not before `from`, l has the bytes between, and the byte b is none of them
-pub record Skips (l : List ℕ) (from b r : ℕ) : Type 0 where
-  pub after : from ≤ r
-  pub inside : r - from ≤ length (drop from l)
-  pub none : has b (part from r l) ≡ false
+-- ---- a scan for two bytes
+-- the byte x is a or b
+abbrev pub either : ℕ → ℕ → ℕ → Bool
+either a b x = eqb x a || eqb x b
+
+-- how many bytes stand before the first a or b
+unfoldable pub clearLen : ℕ → ℕ → List ℕ → ℕ
+clearLen a b [] = 0
+clearLen a b (x ∷ xs) = cond (either a b x) 0 (suc (clearLen a b xs))
+
+-- the bytes as one number, the first the lowest
+unfoldable pub word : List ℕ → ℕ
+word [] = 0
+word (x ∷ xs) = word xs * 256 + x
+
+-- the marks of the bytes that are a or b, as one number: the highest bit of each such byte, and no other
+unfoldable pub marks : ℕ → ℕ → List ℕ → ℕ
+marks a b [] = 0
+marks a b (x ∷ xs) = marks a b xs * 256 + cond (either a b x) 128 0

@@ -1,11 +1,10 @@
-// White bytes and lines, found by scans: where a line ends, where it is cut, what it is, what is left of it when it is trimmed. `fields` scans
+// White bytes and lines, found by scans: where a line ends, where it is cut, what is left of it when it is trimmed. `fields` scans
 // for its fields the same way. A line is the caller's text up to the line's end, with the place where it starts: so every place is a place of the text.
 ghost use mathlib.Core.Path.{_≡_};
-ghost use mathlib.Core.List.{[], _∷_};
-ghost use Prim.Native.Nat.{_+_};
-ghost use lib.ListN.{length, drop};
-ghost use Rattle.scans.specs.Lines.{isSpace, lineLen, endTrimmed, trimmed, lineKind, kindBy, cutOf};
-ghost use Rattle.scans.specs.Scan.{isKind, spanLen, has, Skips};
+ghost use Prim.Native.Nat.{ℕ, _+_, _*_};
+ghost use lib.ListN.{length, take, drop};
+ghost use Rattle.scans.specs.Lines.{isSpace, lineLen, endTrimmed, trimmed, cutOf};
+ghost use Rattle.scans.specs.Scan.{isKind, spanLen, clearLen, word, marks};
 use digits::Class;
 
 // ---- bytes, and scans over them
@@ -21,12 +20,10 @@ pub fn is_space(b: u8) -> bool
     if let Class::Space = k { true } else { false }
 }
 
-// What the scan below passes over: whitespace; a field; what stands before a `;`; what stands before a line feed.
+// What the scan below passes over: whitespace; a field.
 pub enum Kind {
     Space,
     Word,
-    Kept,
-    Line,
 }
 
 fn is_kind(k: Kind, b: u8) -> bool
@@ -35,8 +32,6 @@ fn is_kind(k: Kind, b: u8) -> bool
     match k {
         Kind::Space => is_space(b),
         Kind::Word => !is_space(b),
-        Kind::Kept => b != 59,
-        Kind::Line => b != 10,
     }
 }
 
@@ -56,39 +51,85 @@ pub fn reach(l: &[u8], at: usize, k: Kind) -> usize
     i
 }
 
-// Whether the byte is one of the sixteen. All are looked at, so that the compiler can compare them at once.
-fn block_has(block: &[u8], b: u8) -> bool
-    requires { ⌜ length (now block) ≡ 16 ⌝ }
-    ensures { λ r. ⌜ r ≡ has b (now (block .entry)) ⌝ }
+// ---- a scan for two bytes, eight bytes at a time
+
+// Eight bytes as one number, the first the lowest. The compiler loads them at once.
+fn word_of(block: &[u8]) -> u64
+    requires { ⌜ length (now block) ≡ 8 ⌝ }
+    ensures { λ r. ⌜ r ≡ word (now (block .entry)) ⌝ }
 {
-    let mut found = false;
-    let mut i = 0;
-    while i < 16 {
-        if block[i] == b {
-            found = true;
+    block[0] as u64
+        | (block[1] as u64) << 8
+        | (block[2] as u64) << 16
+        | (block[3] as u64) << 24
+        | (block[4] as u64) << 32
+        | (block[5] as u64) << 40
+        | (block[6] as u64) << 48
+        | (block[7] as u64) << 56
+}
+
+// The byte, eight times.
+fn eight(b: u8) -> u64
+    ensures { λ r. ⌜ r ≡ b * 0x0101_0101_0101_0101 ⌝ }
+{
+    (b as u64) * 0x0101_0101_0101_0101
+}
+
+// All bits of a byte but the highest, eight times.
+const LOW: u64 = 0x7f7f_7f7f_7f7f_7f7f;
+
+// The marks of the bytes that are a or b. Where a byte is a, x has a zero: 127 added to its low bits leaves its highest bit off.
+// Where a is b, half of the work is enough: the compiler does not see that by itself.
+fn hits(block: &[u8], a: u8, b: u8) -> u64
+    requires { ⌜ length (now block) ≡ 8 ⌝ }
+    ensures { λ r. ⌜ r ≡ marks a b (now (block .entry)) ⌝ }
+{
+    let w = word_of(block);
+    let x = w ^ eight(a);
+    let t = ((x & LOW) + LOW) | x;
+    if a == b {
+        return !(t | LOW);
+    }
+    let y = w ^ eight(b);
+    let u = ((y & LOW) + LOW) | y;
+    !((t & u) | LOW)
+}
+
+// Where the first a or b stands from `from` on, or the text's end: byte by byte.
+fn find_near(text: &[u8], from: usize, a: u8, b: u8) -> usize
+    ensures { λ r. ⌜ r ≡ from + clearLen a b (drop from (now (text .entry))) ⌝ }
+{
+    let mut i = from;
+    while i < text.len() {
+        if text[i] == a {
+            return i;
+        }
+        if text[i] == b {
+            return i;
         }
         i += 1;
     }
-    found
+    i
 }
 
-// Where to look for the byte: from `from` on, it does not stand before. Sixteen bytes a turn.
-fn skip_blocks(text: &[u8], from: usize, b: u8) -> usize
-    ensures { λ r. ⌜ Skips (now (text .entry)) from b r ⌝ }
+// The same, eight bytes at a time.
+fn find_either(text: &[u8], from: usize, a: u8, b: u8) -> usize
+    ensures { λ r. ⌜ r ≡ from + clearLen a b (drop from (now (text .entry))) ⌝ }
 {
     let n = text.len();
     if n < from {
         return from;
     }
     let mut i = from;
-    while 16 <= n - i {
-        let e = i + 16;
-        if block_has(&text[i..e], b) {
-            return i;
+    while 8 <= n - i {
+        let e = i + 8;
+        let h = hits(&text[i..e], a, b);
+        if h != 0 {
+            return i + (u64::trailing_zeros(h) / 8) as usize;
         }
         i = e;
     }
-    i
+    find_near(text, i, a, b)
 }
 
 // ---- lines
@@ -97,38 +138,55 @@ fn skip_blocks(text: &[u8], from: usize, b: u8) -> usize
 pub fn line_end(text: &[u8], at: usize) -> usize
     ensures { λ r. ⌜ r ≡ at + lineLen (drop at (now (text .entry))) ⌝ }
 {
-    let i = skip_blocks(text, at, 10);
-    let e = reach(text, i, Kind::Line);
+    let e = find_either(text, at, 10, 10);
     if e < text.len() {
         return e + 1;
     }
     e
 }
 
+// Where the line from `at` on stops: at its first `;` or line feed, or where the text ends.
+pub fn line_stop(text: &[u8], at: usize) -> usize
+    ensures { λ r. ⌜ r ≡ at + clearLen 59 10 (drop at (now (text .entry))) ⌝ }
+{
+    find_either(text, at, 59, 10)
+}
+
+pub struct Ends {
+    pub cut: usize,
+    pub end: usize,
+}
+
+// Where a line that stops there is cut, at its first `;`, and where it ends, its line feed with it.
+pub fn ends_from(text: &[u8], stop: usize) -> Ends
+    ensures { λ r. ⌜ ((at : ℕ) → stop ≡ at + clearLen 59 10 (drop at (now (text .entry)))
+        → (r .end ≡ at + lineLen (drop at (now (text .entry)))) × (r .cut ≡ at + length (cutOf (drop at (take (r .end) (now (text .entry))))))) ⌝ }
+{
+    if text.len() <= stop {
+        return Ends {
+            cut: stop,
+            end: stop,
+        };
+    }
+    if text[stop] == 10 {
+        let e = stop + 1;
+        return Ends { cut: e, end: e };
+    }
+    let e = line_end(text, stop);
+    Ends { cut: stop, end: e }
+}
+
+// Where the line at `at` is cut, and where it ends.
+pub fn line_ends(text: &[u8], at: usize) -> Ends
+    ensures { λ r. ⌜ (r .end ≡ at + lineLen (drop at (now (text .entry)))) × (r .cut ≡ at + length (cutOf (drop at (take (r .end) (now (text .entry)))))) ⌝ }
+{
+    ends_from(text, line_stop(text, at))
+}
+
 pub enum LineKind {
     Blank,
     Header,
     Other,
-}
-
-fn kind_by(b: u8) -> LineKind
-    ensures { λ r. ⌜ r ≡ kindBy (b ∷ []) ⌝ }
-{
-    match b {
-        59 => LineKind::Blank,
-        91 => LineKind::Header,
-        _ => LineKind::Other,
-    }
-}
-
-pub fn line_kind(l: &[u8], at: usize) -> LineKind
-    ensures { λ r. ⌜ r ≡ lineKind (drop at (now (l .entry))) ⌝ }
-{
-    let i = reach(l, at, Kind::Space);
-    if i < l.len() {
-        return kind_by(l[i]);
-    }
-    LineKind::Blank
 }
 
 // Where the last byte that is no whitespace ends.
@@ -154,12 +212,4 @@ pub fn trimmed(l: &[u8]) -> &[u8]
     let d = letters::cut(l, a, l.len());
     let e = trim_end(d);
     letters::cut(d, 0, e)
-}
-
-// Where the line from `at` on is cut: at its first `;`.
-pub fn cut_end(l: &[u8], at: usize) -> usize
-    ensures { λ r. ⌜ r ≡ at + length (cutOf (drop at (now (l .entry)))) ⌝ }
-{
-    let i = skip_blocks(l, at, 59);
-    reach(l, i, Kind::Kept)
 }

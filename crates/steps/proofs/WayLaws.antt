@@ -6,8 +6,8 @@ use mathlib.Core.Bool.{Bool, true, false, cond}
 use mathlib.Core.List.{List, [], map}
 use lib.ListN.{length, take, drop, length-take, length-drop}
 use lib.Ieee.{Float}
-use Rattle.fields.specs.Fields.{Name, fieldsOf, fieldsAt}
-use Rattle.scans.specs.Lines.{lineLen, cutOf}
+use Rattle.fields.specs.Fields.{Name, fieldsOf, fieldsAt, startAt}
+use Rattle.scans.specs.Lines.{lineLen, startTrimmed, cutOf}
 use Rattle.scans.proofs.LineLaws.{end-le, end-more, body-is, cut-prefix}
 use Rattle.fields.proofs.FieldLaws.{drop-take, line-cut-fields}
 use Rattle.lines.specs.Reader as L
@@ -29,19 +29,31 @@ use Rattle.tables.specs.Holding.{Holds, After}
 use Rattle.tables.specs.declared.Kept.{Kept}
 use Rattle.tables.specs.declared.Kept.the-variants.{Stored, Refused}
 use Rattle.tables.proofs.AfterLaws.{after-stored, after-refused}
-use Rattle.headers.specs.Own.{sortIn, groupFields}
+use Rattle.headers.specs.Own.{sortIn, plainBy, groupFields}
 use Rattle.sections.specs.Storing.{passesOver, lineStep}
-use Rattle.steps.specs.Held.{Model, Stands, Fits, Plain, Stepped, Goes, ownLine, movedTo, joinedTo, shutTo}
+use Rattle.steps.specs.Held.{Model, Stands, Fits, Plain, Stepped, Goes, ownLine, movedTo, joinedTo, shutTo, filedBy}
 use Rattle.steps.specs.declared.State.{State}
 use Rattle.steps.specs.declared.Turn.{Turn}
 use Rattle.headers.specs.declared.Sort.{Sort}
 use Rattle.headers.specs.declared.Sort.the-variants as sort
-use Rattle.headers.proofs.OwnLaws.{own-rules}
+use Rattle.headers.proofs.OwnLaws.{own-rules, plain-sort}
 use Rattle.steps.proofs.StepLaws.{never, still-step, joins-step, taken-step, refused-step, closed-step, rejected-step}
 
 pub both : (a b : Bool) → cond a b false ≡ true → (a ≡ true) × (b ≡ true)
 both true b z = (refl, z)
 both false b z = (z, never z)
+
+-- a line that is stored at once: it is plain, and its section stores
+at-once : (p : Bool) (x : Section) → filedBy p x ≡ true → (p ≡ true) × (isRules x ≡ false) × (passesOver x ≡ false)
+at-once p x z = go (isRules x) (passesOver x) z
+  where
+    go : (a b : Bool) → cond a false (cond b false p) ≡ true → (p ≡ true) × (a ≡ false) × (b ≡ false)
+    go true b z = never z
+    go false true z = never z
+    go false false z = (z, refl, refl)
+
+pub by-section : (p : Bool) (x : Section) → isRules x ≡ false → passesOver x ≡ false → p ≡ filedBy p x
+by-section p x a b = rw (a, b)
 
 -- ---- what the definitions say of a line
 becomes : {text w : List ℕ} {f : List Float} {s : State} {l : Line} {m : Model} {o o′ : Outcome Section Network} {r : Turn} → o ≡ o′ → Stepped text s l m o′ r w f → Stepped text s l m o r w f
@@ -259,3 +271,27 @@ module _ {text w : List ℕ} {f : List Float} {s : State} (fit : Fits text s w f
     way-header {x = x} z er m hs =
         becomes (steps z m ∙ headed m here (isRules (m .sec)) x)
         (rw er (still-step hs (fit .more) e he isHeader x (ap (λ y. ownBy isRules y (s .section)) (sort-is z)) (ap (λ y. secBy y (s .section)) (sort-is z))))
+
+  -- ---- a line that is stored at once
+  module _ (b : filedBy (plainBy (startTrimmed (drop (s .at) (take e text)))) (s .section) ≡ true) where
+    pub told : (plainBy (startTrimmed (drop (s .at) (take e text))) ≡ true) × (isRules (s .section) ≡ false) × (passesOver (s .section) ≡ false)
+    told = at-once (plainBy (startTrimmed (drop (s .at) (take e text)))) (s .section) b
+
+    its-sort : sortIn sort.Other ≡ sortOf (drop (s .at) (take e text))
+    its-sort = plain-sort (take e text) (s .at) (startAt (take e text) (s .at)) refl (told .0)
+
+    pub plain-told : Plain (sortOf (bodyAt text (s .at)))
+    plain-told = plain-other {k = sort.Other} its-sort refl
+
+    pub way-told : {r : Turn} {w′ : List ℕ} {f′ : List Float} → Goes text s w f (λ m l. act inp false other (isRules (m .sec)) m l) r w′ f′ → Goes text s w f (step inp false) r w′ f′
+    way-told go = way-any {k = sort.Other} its-sort refl go
+
+    module _ {w′ : List ℕ} {f′ : List Float} {kept : Kept} {end : ℕ} (z : end ≡ s .at + length (cutOf (drop (s .at) (take e text))))
+        (ens : (n : Network) → Holds text n (s .counts) w f → After text (lineStep (s .section) (fieldsAt (take end text) (s .at)) n) kept w f w′ f′) where
+      pub way-stored : {c : Counts} {st : State} → kept ≡ Stored c → st ≡ movedTo s (s .section) c e
+          → Goes text s w f (step inp false) (record { state = st; class = 4; closed = 0; reason = 0; piece = s .line + 1 }) w′ f′
+      way-stored q es = way-told (way-taken plain-told (told .1) (told .2) z ens q es)
+
+      pub way-unstored : {n : Reason} → kept ≡ Refused n
+          → Goes text s w f (step inp false) (record { state = movedTo s (s .section) (s .counts) e; class = 5; closed = 0; reason = reasonNo n; piece = s .line + 1 }) w′ f′
+      way-unstored q = way-told (way-refused plain-told (told .1) (told .2) z ens q refl refl)

@@ -19,6 +19,7 @@ use Rattle.scope.specs.Records.{Network, noNetwork, countsOf}
 use Rattle.scope.specs.Lines.{sortOf, ruleFields}
 use Rattle.tables.specs.Holding.{Holds}
 use Rattle.headers.specs.Own.{groupFields}
+use Rattle.sections.specs.Storing.{passesOver}
 use Rattle.steps.specs.declared.State.{State}
 use Rattle.steps.specs.declared.Turn.{Turn}
 
@@ -93,3 +94,7 @@ abbrev pub Goes : List ℕ → State → List ℕ → List Float → (Model → 
 Goes text s w f φ r w′ f′ =
     (m : Model) → Stands text s w f m
     → Stepped text s (lineAt text (s .at) (s .line + 1)) m (φ m (lineAt text (s .at) (s .line + 1))) r w′ f′
+
+-- a line is stored at once: it is told to be neither blank nor a header nor a group's start, and the section stores
+abbrev pub filedBy : Bool → Section → Bool
+filedBy plain s = cond (isRules s) false (cond (passesOver s) false plain)

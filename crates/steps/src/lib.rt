@@ -2,8 +2,8 @@
 ghost use mathlib.Core.Path.{_≡_};
 ghost use mathlib.Core.Bool.{true, false, cond};
 ghost use Prim.Native.Nat.{_+_, _<_};
-ghost use lib.ListN.{drop};
-ghost use Rattle.scans.specs.Lines.{lineLen};
+ghost use lib.ListN.{length, take, drop};
+ghost use Rattle.scans.specs.Lines.{lineLen, startTrimmed, cutOf};
 ghost use Rattle.lines.specs.Reader.{act, step, empty, start, other, closes, shut};
 ghost use Rattle.lines.specs.Text.{bodyAt};
 ghost use Rattle.scope.specs.Sections.{isRules};
@@ -11,7 +11,8 @@ ghost use Rattle.scope.specs.Answers.{reasonNo};
 ghost use Rattle.scope.specs.Records.{noNetwork, countsOf};
 ghost use Rattle.scope.specs.Lines.{sortOf, inp};
 ghost use Rattle.sections.specs.Storing.{passesOver};
-ghost use Rattle.steps.specs.Held.{Fits, Plain, Goes, ownLine, movedTo, joinedTo, shutTo, newState};
+ghost use Rattle.headers.specs.Own.{sortIn, plainBy};
+ghost use Rattle.steps.specs.Held.{Fits, Plain, Goes, ownLine, movedTo, joinedTo, shutTo, newState, filedBy};
 use headers::Sort;
 use scope::Counts;
 use scope::Reason;
@@ -112,7 +113,7 @@ impl State {
     }
 
     // Past the line that ends at `e`, in a section, with the counts after it.
-    fn moved(self, section: Section, counts: Counts, e: usize) -> Self
+    pub fn moved(self, section: Section, counts: Counts, e: usize) -> Self
         requires { ⌜ self .line < 65536 ⌝ }
         ensures { λ r. ⌜ r ≡ movedTo self section counts e ⌝ }
     {
@@ -234,16 +235,22 @@ fn still(s: State, section: Section, e: usize, class: u8) -> Turn
 }
 
 // A line of a section that stores: it is cut at its first `;`.
-fn filed(text: &[u8], s: State, e: usize, words: &mut [u64], numbers: &mut [f64]) -> Turn
-    requires { ⌜ Fits (now text) s (now words) (now numbers) × (e ≡ s .at + lineLen (drop (s .at) (now text))) × Plain (sortOf (bodyAt (now text) (s .at)))
+fn filed(
+    text: &[u8],
+    s: State,
+    e: usize,
+    cut: usize,
+    words: &mut [u64],
+    numbers: &mut [f64],
+) -> Turn
+    requires { ⌜ Fits (now text) s (now words) (now numbers) × (e ≡ s .at + lineLen (drop (s .at) (now text))) × (cut ≡ s .at + length (cutOf (drop (s .at) (take e (now text))))) × Plain (sortOf (bodyAt (now text) (s .at)))
         × (isRules (s .section) ≡ false) × (passesOver (s .section) ≡ false) ⌝ }
     ensures { λ r. ⌜ Goes (now (text .entry)) s (now (words .entry)) (now (numbers .entry)) (λ m l. act inp false other (isRules (m .sec)) m l) r (now (words .exit)) (now (numbers .exit)) ⌝ }
 {
     let at = s.at;
     let section = s.section;
     let counts = s.counts;
-    let end = scans::cut_end(&text[..e], at);
-    let k = sections::store_line(section, text, at, end, counts, words, numbers);
+    let k = sections::store_line(section, text, at, cut, counts, words, numbers);
     match k {
         Kept::Stored(c) => Turn {
             state: s.moved(section, c, e),
@@ -263,8 +270,15 @@ fn filed(text: &[u8], s: State, e: usize, words: &mut [u64], numbers: &mut [f64]
 }
 
 // A line that is not blank, no header, and closes nothing.
-fn plain(text: &[u8], s: State, e: usize, words: &mut [u64], numbers: &mut [f64]) -> Turn
-    requires { ⌜ Fits (now text) s (now words) (now numbers) × (e ≡ s .at + lineLen (drop (s .at) (now text))) × Plain (sortOf (bodyAt (now text) (s .at))) ⌝ }
+fn plain(
+    text: &[u8],
+    s: State,
+    e: usize,
+    cut: usize,
+    words: &mut [u64],
+    numbers: &mut [f64],
+) -> Turn
+    requires { ⌜ Fits (now text) s (now words) (now numbers) × (e ≡ s .at + lineLen (drop (s .at) (now text))) × (cut ≡ s .at + length (cutOf (drop (s .at) (take e (now text))))) × Plain (sortOf (bodyAt (now text) (s .at))) ⌝ }
     ensures { λ r. ⌜ Goes (now (text .entry)) s (now (words .entry)) (now (numbers .entry)) (λ m l. act inp false other (isRules (m .sec)) m l) r (now (words .exit)) (now (numbers .exit)) ⌝ }
 {
     let section = s.section;
@@ -280,7 +294,7 @@ fn plain(text: &[u8], s: State, e: usize, words: &mut [u64], numbers: &mut [f64]
     if sections::passes_over(section) {
         return still(s, section, e, PASSED);
     }
-    filed(text, s, e, words, numbers)
+    filed(text, s, e, cut, words, numbers)
 }
 
 // A blank line closes the open group.
@@ -307,14 +321,55 @@ fn ends(s: State) -> bool
 }
 
 // A line that starts with RULE closes the open group, in RULES, and is dropped.
-fn starting(text: &[u8], s: State, e: usize, words: &mut [u64], numbers: &mut [f64]) -> Turn
-    requires { ⌜ Fits (now text) s (now words) (now numbers) × (e ≡ s .at + lineLen (drop (s .at) (now text))) × Plain (sortOf (bodyAt (now text) (s .at))) ⌝ }
+fn starting(
+    text: &[u8],
+    s: State,
+    e: usize,
+    cut: usize,
+    words: &mut [u64],
+    numbers: &mut [f64],
+) -> Turn
+    requires { ⌜ Fits (now text) s (now words) (now numbers) × (e ≡ s .at + lineLen (drop (s .at) (now text))) × (cut ≡ s .at + length (cutOf (drop (s .at) (take e (now text))))) × Plain (sortOf (bodyAt (now text) (s .at))) ⌝ }
     ensures { λ r. ⌜ Goes (now (text .entry)) s (now (words .entry)) (now (numbers .entry)) (λ m l. act inp false start (isRules (m .sec)) m l) r (now (words .exit)) (now (numbers .exit)) ⌝ }
 {
     if ends(s) {
         return close(text, s, e, true, words, numbers);
     }
-    plain(text, s, e, words, numbers)
+    plain(text, s, e, cut, words, numbers)
+}
+
+// The next line, which is of the sort `k`, ends at `e` and is cut at `cut`.
+pub fn take_turn(
+    text: &[u8],
+    s: State,
+    e: usize,
+    cut: usize,
+    k: Sort,
+    words: &mut [u64],
+    numbers: &mut [f64],
+) -> Turn
+    requires { ⌜ Fits (now text) s (now words) (now numbers) × (e ≡ s .at + lineLen (drop (s .at) (now text))) × (cut ≡ s .at + length (cutOf (drop (s .at) (take e (now text))))) × (sortIn k ≡ sortOf (drop (s .at) (take e (now text)))) ⌝ }
+    ensures { λ r. ⌜ Goes (now (text .entry)) s (now (words .entry)) (now (numbers .entry)) (step inp false) r (now (words .exit)) (now (numbers .exit)) ⌝ }
+{
+    match k {
+        Sort::Empty => blank(text, s, e, words, numbers),
+        Sort::Heading(x) => still(s, x, e, HEADER),
+        Sort::Start => starting(text, s, e, cut, words, numbers),
+        Sort::Other => plain(text, s, e, cut, words, numbers),
+    }
+}
+
+// Whether the line of `l` from `at` on is stored at once, in a section.
+pub fn is_filed(l: &[u8], at: usize, section: Section) -> bool
+    ensures { λ r. ⌜ r ≡ filedBy (plainBy (startTrimmed (drop at (now (l .entry))))) section ⌝ }
+{
+    if headers::in_rules(section) {
+        return false;
+    }
+    if sections::passes_over(section) {
+        return false;
+    }
+    headers::is_plain(l, at)
 }
 
 // The next line.
@@ -323,12 +378,12 @@ pub fn step(text: &[u8], s: State, words: &mut [u64], numbers: &mut [f64]) -> Tu
     ensures { λ r. ⌜ Goes (now (text .entry)) s (now (words .entry)) (now (numbers .entry)) (step inp false) r (now (words .exit)) (now (numbers .exit)) ⌝ }
 {
     let at = s.at;
-    let e = scans::line_end(text, at);
-    let k = headers::sort_of(&text[..e], at);
-    match k {
-        Sort::Empty => blank(text, s, e, words, numbers),
-        Sort::Heading(x) => still(s, x, e, HEADER),
-        Sort::Start => starting(text, s, e, words, numbers),
-        Sort::Other => plain(text, s, e, words, numbers),
+    let section = s.section;
+    let ends = scans::line_ends(text, at);
+    let e = ends.end;
+    if is_filed(&text[..e], at, section) {
+        return filed(text, s, e, ends.cut, words, numbers);
     }
+    let k = headers::sort_of(&text[..e], at);
+    take_turn(text, s, e, ends.cut, k, words, numbers)
 }

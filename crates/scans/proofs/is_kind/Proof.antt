@@ -17,35 +17,13 @@ enum-told-2 c = search needs
 is-space-requires-2 : tie.Need-is-space-requires-2
 is-space-requires-2 c κs = search needs
 
-enum-told-3 : tie.Need-enum-told-3
-enum-told-3 c = search needs
-
-enum-told-4 : tie.Need-enum-told-4
-enum-told-4 c = search needs
-
 returns : tie.Need-returns
 returns c = rw (c .before .enum-told .given .1) (c .is-space .ensures)
 
 returns-2 : tie.Need-returns-2
 returns-2 c = rw (c .before .enum-told2 .given .1) (ap not (c .is-space2 .ensures))
 
-returns-3 : tie.Need-returns-3
-returns-3 c = rw (c .enum-told3 .given .1)
-
-returns-4 : tie.Need-returns-4
-returns-4 c = rw (c .enum-told4 .given .1)
-
 pub is-kind-spec : {M : Type 1} → statement M
 is-kind-spec =
     tie.close
-    (tie.spec
-    enum-told
-    is-space-requires
-    enum-told-2
-    is-space-requires-2
-    enum-told-3
-    enum-told-4
-    returns
-    returns-2
-    returns-3
-    returns-4)
+    (tie.spec enum-told is-space-requires enum-told-2 is-space-requires-2 returns returns-2)

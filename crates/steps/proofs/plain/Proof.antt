@@ -1,3 +1,4 @@
+-- `steps::plain` meets its contract. Assumes nothing.
 use mathlib.Core.Path.{sym, _∙_}
 use Rattle.steps.proofs.WayLaws.{way-passed, way-joins}
 use borrow.Author.Needs.{needs}
@@ -5,10 +6,10 @@ use Rattle.steps.proofs.plain.Statement.{statement}
 use Rattle.steps.proofs.plain.Tie as tie
 use Rattle.steps.proofs.plain.Reads as reads
 use Rattle.steps.proofs.plain.Lts as lts
-use Rattle.steps.proofs.State.joined.Reads as joined-reads
-use Rattle.steps.proofs.filed.Reads as filed-reads
 use Rattle.headers.proofs.in_rules.Reads as in-rules-reads
 use Rattle.sections.proofs.passes_over.Reads as passes-over-reads
+use Rattle.steps.proofs.State.joined.Reads as joined-reads
+use Rattle.steps.proofs.filed.Reads as filed-reads
 use Rattle.steps.proofs.still.Reads as still-reads
 
 in-rules-requires : tie.Need-in-rules-requires
@@ -18,7 +19,7 @@ joined-requires : tie.Need-joined-requires
 joined-requires c κs = search needs
 
 returns : tie.Need-returns
-returns c = way-joins (c .before .before .before .before .before .before .pre .0) (c .before .before .before .before .before .before .pre .1) (c .before .before .before .before .before .before .pre .2) (sym (c .before .before .in-rules .ensures) ∙ c .before .if1 .taken) (c .joined .ensures)
+returns c = way-joins (c .before .before .before .before .before .before .pre .0) (c .before .before .before .before .before .before .pre .1) (c .before .before .before .before .before .before .pre .3) (sym (c .before .before .in-rules .ensures) ∙ c .before .if1 .taken) (c .joined .ensures)
 
 passes-over-requires : tie.Need-passes-over-requires
 passes-over-requires c κs = search needs
@@ -27,19 +28,19 @@ still-requires : tie.Need-still-requires
 still-requires c κs = search needs
 
 returns-2 : tie.Need-returns-2
-returns-2 c = way-passed (c .before .before .before .before .before .before .before .before .pre .0) (c .before .before .before .before .before .before .before .before .pre .1) (c .before .before .before .before .before .before .before .before .pre .2) (sym (c .before .before .passes-over .ensures) ∙ c .before .if2 .taken) (c .still .ensures)
+returns-2 c = way-passed (c .before .before .before .before .before .before .before .before .pre .0) (c .before .before .before .before .before .before .before .before .pre .1) (c .before .before .before .before .before .before .before .before .pre .3) (sym (c .before .before .passes-over .ensures) ∙ c .before .if2 .taken) (c .still .ensures)
 
 filed-requires : tie.Need-filed-requires
-filed-requires c κs = (c .before .before .before .before .before .before .before .before .before .pre .0, c .before .before .before .before .before .before .before .before .before .pre .1, c .before .before .before .before .before .before .before .before .before .pre .2, sym (c .before .before .before .before .before .in-rules .ensures) ∙ c .before .before .before .before .if1 .left, sym (c .before .before .before .passes-over .ensures) ∙ c .before .before .if2 .left)
+filed-requires c κs = search needs
 
 same-length : tie.Need-same-length
-same-length c = c .before .before .before .before .filed .kept .1 .1 .1 .0
+same-length c = search needs
 
 same-length-2 : tie.Need-same-length-2
-same-length-2 c = c .before .before .before .before .filed .kept .1 .1 .1 .1 .0
+same-length-2 c = search needs
 
 returns-3 : tie.Need-returns-3
-returns-3 c = c .before .before .before .before .filed .ensures
+returns-3 c = search needs
 
 pub plain-spec : {M : Type 1} → statement M
 plain-spec =

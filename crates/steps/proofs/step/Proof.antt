@@ -1,105 +1,76 @@
-use mathlib.Core.Path.{sym}
+-- `steps::step` meets its contract. Assumes nothing.
+use mathlib.Core.Path.{sym, _∙_}
 use lib.Seq.{length-take-le}
 use denote.Ref.{now}
 use Rattle.scans.proofs.LineLaws.{end-le}
-use Rattle.steps.proofs.WayLaws.{sort-is, plain-start, plain-other, way-any, way-header}
+use Rattle.steps.proofs.WayLaws.{told, plain-told, way-told}
 use borrow.Author.Needs.{needs}
 use Rattle.steps.proofs.step.Statement.{statement}
 use Rattle.steps.proofs.step.Tie as tie
 use Rattle.steps.proofs.step.Reads as reads
 use Rattle.steps.proofs.step.Lts as lts
-use Rattle.scans.proofs.line_end.Reads as line-end-reads
-use Rattle.steps.proofs.blank.Reads as blank-reads
 use Rattle.headers.proofs.sort_of.Reads as sort-of-reads
-use Rattle.steps.proofs.plain.Reads as plain-reads
-use Rattle.steps.proofs.starting.Reads as starting-reads
-use Rattle.steps.proofs.still.Reads as still-reads
+use Rattle.scans.proofs.line_ends.Reads as line-ends-reads
+use Rattle.steps.proofs.filed.Reads as filed-reads
+use Rattle.steps.proofs.is_filed.Reads as is-filed-reads
+use Rattle.steps.proofs.take_turn.Reads as take-turn-reads
 
-line-end-requires : tie.Need-line-end-requires
-line-end-requires c κs = search needs
+line-ends-requires : tie.Need-line-ends-requires
+line-ends-requires c κs = search needs
+
+slice-aggregate-is-filed : tie.Need-slice-aggregate-is-filed
+slice-aggregate-is-filed c = let a = c .before .before .before .before .before in sym (length-take-le (c .before .line-ends .result .end) (now (a .args .text)) (end-le (now (a .args .text)) (a .args .s .at) (c .before .line-ends .result .end) (a .pre .more) (c .before .line-ends .ensures .0)))
+
+is-filed-requires : tie.Need-is-filed-requires
+is-filed-requires c κs = search needs
+
+filed-requires : tie.Need-filed-requires
+filed-requires c κs =
+    let q = c .before .before .before .before .before .before .before .before .before .pre in
+    let z = c .before .before .before .before .before .line-ends .ensures in
+    let t = told q (z .0) (sym (c .before .before .before .is-filed .ensures) ∙ c .before .before .if1 .taken) in (q, z .0, z .1, plain-told q (z .0) (sym (c .before .before .before .is-filed .ensures) ∙ c .before .before .if1 .taken), t .1, t .2)
+
+same-length : tie.Need-same-length
+same-length c = search needs
+
+same-length-2 : tie.Need-same-length-2
+same-length-2 c = search needs
+
+returns : tie.Need-returns
+returns c = way-told (c .before .before .before .before .before .before .before .before .before .before .before .before .before .before .pre) (c .before .before .before .before .before .before .before .before .before .before .line-ends .ensures .0) (sym (c .before .before .before .before .before .before .before .before .is-filed .ensures) ∙ c .before .before .before .before .before .before .before .if1 .taken) (c .before .before .before .before .filed .ensures)
 
 slice-aggregate-sort-of : tie.Need-slice-aggregate-sort-of
-slice-aggregate-sort-of c = sym (length-take-le (c .before .line-end .result) (now (c .before .before .before .before .before .args .text)) (end-le (now (c .before .before .before .before .before .args .text)) (c .before .before .before .before .before .args .s .at) (c .before .line-end .result) (c .before .before .before .before .before .pre .more) (c .before .line-end .ensures)))
+slice-aggregate-sort-of c = let a = c .before .before .before .before .before .before .before .before in sym (length-take-le (c .before .before .before .before .line-ends .result .end) (now (a .args .text)) (end-le (now (a .args .text)) (a .args .s .at) (c .before .before .before .before .line-ends .result .end) (a .pre .more) (c .before .before .before .before .line-ends .ensures .0)))
 
 sort-of-requires : tie.Need-sort-of-requires
 sort-of-requires c κs = search needs
 
-enum-told : tie.Need-enum-told
-enum-told c = search needs
-
-blank-requires : tie.Need-blank-requires
-blank-requires c κs = (c .before .before .before .before .before .before .before .before .before .before .pre, c .before .before .before .before .before .before .line-end .ensures, sort-is (c .before .before .before .before .before .before .before .before .before .before .pre) (c .before .before .before .before .before .before .line-end .ensures) (c .before .before .before .before .sort-of .ensures) (c .before .before .enum-told .given .1))
-
-enum-known-k : tie.Need-enum-known-k
-enum-known-k c = search needs
-
-still-requires : tie.Need-still-requires
-still-requires c κs = search needs
-
-enum-told-2 : tie.Need-enum-told-2
-enum-told-2 c = search needs
-
-starting-requires : tie.Need-starting-requires
-starting-requires c κs = (c .before .before .before .before .before .before .before .before .before .before .pre, c .before .before .before .before .before .before .line-end .ensures, plain-start (c .before .before .before .before .before .before .before .before .before .before .pre) (c .before .before .before .before .before .before .line-end .ensures) (c .before .before .before .before .sort-of .ensures) (c .before .before .enum-told2 .given .1))
-
-enum-told-3 : tie.Need-enum-told-3
-enum-told-3 c = search needs
-
-plain-requires : tie.Need-plain-requires
-plain-requires c κs = (c .before .before .before .before .before .before .before .before .before .before .pre, c .before .before .before .before .before .before .line-end .ensures, plain-other (c .before .before .before .before .before .before .before .before .before .before .pre) (c .before .before .before .before .before .before .line-end .ensures) (c .before .before .before .before .sort-of .ensures) (c .before .before .enum-told3 .given .1))
-
-same-length : tie.Need-same-length
-same-length c = c .before .before .before .before .blank .kept .1 .1 .1 .0
-
-same-length-2 : tie.Need-same-length-2
-same-length-2 c = c .before .before .before .before .blank .kept .1 .1 .1 .1 .0
-
-returns : tie.Need-returns
-returns c = way-any (c .before .before .before .before .before .before .before .before .before .before .before .before .before .before .before .pre) (c .before .before .before .before .before .before .before .before .before .before .before .line-end .ensures) (c .before .before .before .before .before .before .before .before .before .sort-of .ensures) (c .before .before .before .before .before .before .before .enum-told .given .1) (c .before .before .before .before .blank .ensures)
-
-returns-2 : tie.Need-returns-2
-returns-2 c = way-header (c .before .before .before .before .before .before .before .before .before .before .pre) (c .before .before .before .before .before .before .line-end .ensures) (c .before .before .before .before .sort-of .ensures) (c .before .before .k .given .1) (c .still .ensures)
+take-turn-requires : tie.Need-take-turn-requires
+take-turn-requires c κs = (c .before .before .before .before .before .before .before .before .before .before .before .pre, c .before .before .before .before .before .before .before .line-ends .ensures .0, c .before .before .before .before .before .before .before .line-ends .ensures .1, c .before .before .sort-of .ensures)
 
 same-length-3 : tie.Need-same-length-3
-same-length-3 c = c .before .before .before .before .starting .kept .1 .1 .1 .0
+same-length-3 c = search needs
 
 same-length-4 : tie.Need-same-length-4
-same-length-4 c = c .before .before .before .before .starting .kept .1 .1 .1 .1 .0
+same-length-4 c = search needs
 
-returns-3 : tie.Need-returns-3
-returns-3 c = way-any (c .before .before .before .before .before .before .before .before .before .before .before .before .before .before .before .pre) (c .before .before .before .before .before .before .before .before .before .before .before .line-end .ensures) (c .before .before .before .before .before .before .before .before .before .sort-of .ensures) (c .before .before .before .before .before .before .before .enum-told2 .given .1) (c .before .before .before .before .starting .ensures)
-
-same-length-5 : tie.Need-same-length-5
-same-length-5 c = c .before .before .before .before .plain .kept .1 .1 .1 .0
-
-same-length-6 : tie.Need-same-length-6
-same-length-6 c = c .before .before .before .before .plain .kept .1 .1 .1 .1 .0
-
-returns-4 : tie.Need-returns-4
-returns-4 c = way-any (c .before .before .before .before .before .before .before .before .before .before .before .before .before .before .before .pre) (c .before .before .before .before .before .before .before .before .before .before .before .line-end .ensures) (c .before .before .before .before .before .before .before .before .before .sort-of .ensures) (c .before .before .before .before .before .before .before .enum-told3 .given .1) (c .before .before .before .before .plain .ensures)
+returns-2 : tie.Need-returns-2
+returns-2 c = c .before .before .before .before .take-turn .ensures
 
 pub step-spec : {M : Type 1} → statement M
 step-spec =
     tie.close
     (tie.spec
-    line-end-requires
-    slice-aggregate-sort-of
-    sort-of-requires
-    enum-told
-    blank-requires
-    enum-known-k
-    still-requires
-    enum-told-2
-    starting-requires
-    enum-told-3
-    plain-requires
+    line-ends-requires
+    slice-aggregate-is-filed
+    is-filed-requires
+    filed-requires
     same-length
     same-length-2
     returns
-    returns-2
+    slice-aggregate-sort-of
+    sort-of-requires
+    take-turn-requires
     same-length-3
     same-length-4
-    returns-3
-    same-length-5
-    same-length-6
-    returns-4)
+    returns-2)
