@@ -36,8 +36,3 @@ clearLen a b (x ∷ xs) = cond (either a b x) 0 (suc (clearLen a b xs))
 unfoldable pub word : List ℕ → ℕ
 word [] = 0
 word (x ∷ xs) = word xs * 256 + x
-
--- the marks of the bytes that are a or b, as one number: the highest bit of each such byte, and no other
-unfoldable pub marks : ℕ → ℕ → List ℕ → ℕ
-marks a b [] = 0
-marks a b (x ∷ xs) = marks a b xs * 256 + cond (either a b x) 128 0
