@@ -35,6 +35,10 @@ fields-skip at (b ∷ bs) = go (isSpace b) refl (fields-skip (suc at) bs)
     go true e h = let k : suc at + n ≡ at + suc n = omega arith in rw e (h ∙ rw k)
     go false e h = rw add-zero
 
+fields-space : (at b : ℕ) (bs : List ℕ) → isSpace b ≡ true → fieldsOf at (b ∷ bs) ≡ fieldsOf (suc at) bs
+unfolding fieldsOf
+fields-space at b bs e = rw e
+
 -- a text that starts with a byte that is no whitespace: its first field, and the fields after
 fields-no : (at b : ℕ) (bs : List ℕ) → isSpace b ≡ false → fieldsOf at (b ∷ bs) ≡ before at b bs (fieldsOf (suc at) bs)
 unfolding fieldsOf
@@ -84,24 +88,45 @@ span-counted (b ∷ bs) = go (isSpace b) (span-counted bs)
     go true e = refl
     go false e = ap suc e
 
+-- a word that ends inside the line ends at whitespace: from the byte behind that on the fields are the same
+pub word-over : (l : List ℕ) (start n : ℕ) → n ≡ wordLen (drop start l) → start + n < length l → fieldsAt l (start + n) ≡ fieldsAt l (start + n + 1)
+word-over l start n e h =
+    let w : List ℕ = drop start l in
+    let k : n ≡ spanLen Word w = e ∙ sym (span-counted w) in
+    let end : ℕ = start + n in
+    let s : not (isSpace (getD l end 0)) ≡ false = rw (← getD-drop start l n 0, k) (span-stop Word w (omega (arith, length-drop start l))) in
+    ap (fieldsOf end) (drop-cons l end 0 h) ∙ fields-space end (getD l end 0) (drop (suc end) l) (space (isSpace (getD l end 0)) s) ∙ rw add-one
+  where
+    space : (t : Bool) → not t ≡ false → t ≡ true
+    space true e = refl
+    space false e = sym e
+
 -- what the next field is, by where the whitespace and the word end
 module _ (l : List ℕ) (at start end : ℕ) (es : start ≡ startAt l at) where
   pub skipped : fieldsAt l at ≡ fieldsAt l start
   skipped = fields-skip at (drop at l) ∙ rw (es, drop-drop)
 
+  -- the word starts with a byte that is no whitespace, and goes on with what follows it
+  starts : start < length l → isSpace (getD l start 0) ≡ false
+  starts h = rw (es, ← getD-drop at l (spanLen Space (drop at l)) 0) (span-stop Space (drop at l) (omega (arith, length-drop at l)))
+
+  goes-on : start < length l → spanLen Word (drop start l) ≡ suc (spanLen Word (drop (suc start) l))
+  goes-on h = ap (spanLen Word) (drop-cons l start 0 h) ∙ span-word (getD l start 0) (drop (suc start) l) (starts h)
+
   pub next-taken : start < length l → end ≡ start + spanLen Word (drop start l) → Next l at (Taken (record { at = start; end = end }))
   next-taken h ee =
       let k : ℕ = spanLen Word (drop start l) in
       let b : ℕ = getD l start 0 in
-      let n : length (drop at l) ≡ length l - at = length-drop at l in
-      let n2 : length (drop start l) ≡ length l - start = length-drop start l in
-      let ns : isSpace b ≡ false =
-      rw (es, ← getD-drop at l (spanLen Space (drop at l)) 0) (span-stop Space (drop at l) (omega arith)) in
+      let n : length (drop start l) ≡ length l - start = length-drop start l in
       let d : drop start l ≡ b ∷ drop (suc start) l = drop-cons l start 0 h in
-      let w : spanLen Word (drop start l) ≡ suc (spanLen Word (drop (suc start) l)) = ap (spanLen Word) d ∙ span-word b (drop (suc start) l) ns in
-      let f : First start (drop start l) k = rw d (fields-word start b (drop (suc start) l) ns) in
+      let w : k ≡ suc (spanLen Word (drop (suc start) l)) = goes-on h in
+      let f : First start (drop start l) k = rw d (fields-word start b (drop (suc start) l) (starts h)) in
       let e1 : end - start ≡ k = omega arith in
       is-taken (record { at = start; end = end }) (skipped ∙ f ∙ rw (drop-drop, e1, ee)) (record { some = omega arith; inside = omega (arith, span-le Word (drop start l)) })
+
+  -- where the word's end was looked for from its second byte on
+  pub next-from : start < length l → end ≡ start + 1 + spanLen Word (drop (start + 1) l) → Next l at (Taken (record { at = start; end = end }))
+  next-from h ee = let z : start + 1 ≡ suc start = omega arith in next-taken h (omega (arith, rw z at ee, goes-on h))
 
   -- where the bytes before the next whitespace were counted
   pub next-word : start < length l → (n : ℕ) → n ≡ wordLen (drop start l) → end ≡ start + n → Next l at (Taken (record { at = start; end = end }))
@@ -169,10 +194,6 @@ Ordered text from (n ∷ ns) = Stands text from n × Ordered text (suc (n .at + 
 sooner : (text : List ℕ) (from : ℕ) (ns : List Name) → Ordered text (suc from) ns → Ordered text from ns
 sooner text from [] o = tt
 sooner text from (n ∷ ns) (s, o) = (record { after = omega (arith, s .after); some = s .some; inside = s .inside; there = s .there }, o)
-
-fields-space : (at b : ℕ) (bs : List ℕ) → isSpace b ≡ true → fieldsOf at (b ∷ bs) ≡ fieldsOf (suc at) bs
-unfolding fieldsOf
-fields-space at b bs e = rw e
 
 module _ (text : List ℕ) where
   shorter : (at b : ℕ) (bs : List ℕ) → drop at text ≡ b ∷ bs → drop (suc at) text ≡ bs

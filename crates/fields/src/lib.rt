@@ -1,5 +1,7 @@
 // Fields, as parts of the text. A line is the caller's text up to the line's end, with the place where it starts: so every place is a place of the text.
 ghost use mathlib.Core.Path.{_≡_};
+ghost use mathlib.Core.List.{List};
+ghost use Prim.Native.Nat.{ℕ};
 ghost use Rattle.fields.specs.Fields.{part, startAt, fieldsAt, lettersOr, Next, Past};
 use scans::Kind;
 
@@ -31,27 +33,34 @@ pub fn field_start(l: &[u8], at: usize) -> usize
     scans::reach(l, at, Kind::Space)
 }
 
-// The next field from `at` on.
+// The next field from `at` on. Where it starts stands no whitespace, so its end is looked for from the byte after.
 pub fn next_field(l: &[u8], at: usize) -> Field
     ensures { λ r. ⌜ Next (now (l .entry)) at r ⌝ }
 {
     let start = field_start(l, at);
     if start < l.len() {
-        let end = scans::reach(l, start, Kind::Word);
+        let end = scans::reach(l, start + 1, Kind::Word);
         return Field::Taken(Span { at: start, end });
     }
     Field::Nothing
 }
 
-// Where the next field ends: the fields from there on are the rest.
-pub fn past_field(l: &[u8], at: usize) -> usize
-    ensures { λ r. ⌜ Past (now (l .entry)) at r ⌝ }
+// Where a field ends that was the next from `at` on: the fields from there on are the rest.
+pub fn field_end(f: Field, at: usize) -> usize
+    ensures { λ r. ⌜ ((l : List ℕ) → Next l at f → Past l at r) ⌝ }
 {
-    let f = next_field(l, at);
     let Field::Taken(s) = f else {
         return at;
     };
     s.end
+}
+
+// Where the next field ends.
+pub fn past_field(l: &[u8], at: usize) -> usize
+    ensures { λ r. ⌜ Past (now (l .entry)) at r ⌝ }
+{
+    let f = next_field(l, at);
+    field_end(f, at)
 }
 
 // The next field's bytes, a part of the line; or, where there is none, the other text.

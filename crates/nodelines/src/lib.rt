@@ -61,7 +61,7 @@ pub fn read_junction(l: &[u8], at: usize) -> JunctionRead
         return JunctionRead::NoJunction(takers::reason_of(amount));
     };
     let pattern = fields::next_field(l, at3);
-    let at4 = fields::past_field(l, at3);
+    let at4 = fields::field_end(pattern, at3);
     let off = takers::take_flag(l, at4);
     match off {
         TookFlag::Flag(disabled, _) => JunctionRead::Junction(JunctionLine {

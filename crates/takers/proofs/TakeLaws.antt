@@ -1,10 +1,11 @@
 -- What was taken, from what the code was told. Assumes nothing.
 use Prim.Native.Nat.{ℕ, _+_, _-_, _<_, _≤_}
 use native.Mathlib.Omega.{arith}
-use mathlib.Core.Path.{_≡_, refl, sym, ap, _∙_, subst}
+use mathlib.Core.Path.{_≡_, refl, sym, ap, ap₂, _∙_, subst}
 use mathlib.Core.List.{List, [], _∷_}
 use lib.Ieee.{Float}
 use lib.ListN.{length, take, drop}
+use lib.Seq.{take-all}
 use types.Run.{OneOf, miss}
 use denote.Enum.Declared.{tagOf}
 use Rattle.decimals.specs.declared.Number as N
@@ -14,15 +15,16 @@ use Rattle.decimals.specs.declared.Plain.the-variants.{Is}
 use Rattle.decimals.specs.Numbers.{numberOf}
 use Rattle.decimals.specs.Begun.{Begins}
 use Rattle.decimals.proofs.Number.{the-type}
+use Rattle.digits.specs.Ends.{wordLen}
 use Rattle.digits.proofs.Lists.{tail-of}
 use Rattle.fields.specs.Fields.{startAt}
 use Rattle.fields.specs.declared.Span.{Span}
-use Rattle.fields.specs.Fields.{Name, part, nameIn, fieldsAt, rest, Next}
-use Rattle.fields.proofs.FieldLaws.{skipped, next-nothing, next-word}
+use Rattle.fields.specs.Fields.{Name, part, nameIn, fieldsAt, rest, lettersOr, Next}
+use Rattle.fields.proofs.FieldLaws.{length-part, skipped, word-over, next-nothing, next-word}
 use Rattle.fields.specs.declared.Field.{Field}
 use Rattle.fields.specs.declared.Field.the-variants.{Taken, Nothing}
 use Rattle.scope.specs.declared.Reason.the-variants as reason
-use Rattle.scope.specs.Values.{Took, took, refused, asNumber, asSwallowed, numberFrom, swallowedFrom, optionalFrom}
+use Rattle.scope.specs.Values.{Took, took, refused, asNumber, asSwallowed, numberFrom, numberOr, swallowedFrom, optionalFrom}
 use Rattle.takers.specs.declared.TookNumber.{TookNumber}
 use Rattle.takers.specs.declared.TookNumber.the-variants.{NoNumber}
 use Rattle.takers.specs.declared.NextNumber.{NextNumber}
@@ -69,8 +71,38 @@ module _ (l : List ℕ) (at start : ℕ) (es : start ≡ startAt l at) where
       let z : start + len - start ≡ len = omega arith in
       numbered-read l at _ (next-word l at start (start + len) es h len k refl) (record { at = start; end = start + len }) refl (take len (drop start l)) (rw z) n q
 
+  -- and where it ends inside the line, the whitespace behind it is passed over
+  pub numbered-over : start < length l → (n : N.Number) (len : ℕ) (p : Plain) → Begins (take (length l - start) (drop start l)) p → p ≡ Is n len → start + len < length l
+      → Numbered l at (next.Is n (start + len + 1))
+  numbered-over h n len p b e i =
+      let (f, k, q) = numbered-plain h n len p b e in
+      (f, k ∙ ap (f ∷_) (word-over l start len (begun n len p b e .0) i), q)
+
   pub plain-fits : start < length l → (n : N.Number) (len : ℕ) (p : Plain) → Begins (take (length l - start) (drop start l)) p → p ≡ Is n len → start + len ≤ length l
   plain-fits h n len p b e = next-word l at start (start + len) es h len (begun n len p b e .0) refl .taken _ refl .1 .inside
+
+  -- ---- the number of a part that was handed out: the next field's, or the other text
+  module _ (other text : List ℕ) (et : text ≡ lettersOr other (fieldsAt l start)) (n : N.Number) (en : n ≡ numberOf text) where
+    handed : text ≡ lettersOr other (fieldsAt l at)
+    handed = et ∙ sym (ap (lettersOr other) (skipped l at start 0 es))
+
+    -- the others stand from the part's end on
+    pub took-part : start < length l → tookNumber l (numberTook n (start + length text)) ≡ numberOr other (fieldsAt l at)
+    took-part h =
+        let end : ℕ = start + wordLen (drop start l) in
+        let (k, fit) = next-word l at start end es h (wordLen (drop start l)) refl refl .taken (record { at = start; end = end }) refl in
+        let p : text ≡ part start end l = handed ∙ ap (lettersOr other) k in
+        let z : start + length text ≡ end = omega (arith, ap length p, length-part start end l (fit .inside)) in
+        rw (z, k) (took-as l n end ∙ ap (λ (x : N.Number). asNumber x (fieldsAt l end)) (en ∙ ap numberOf p))
+
+    pub took-other : length l ≤ start → tookNumber l (numberTook n at) ≡ numberOr other (fieldsAt l at)
+    took-other h =
+        let k : fieldsAt l at ≡ [] = next-nothing l at start 0 es h .nothing refl in
+        took-as l n at ∙ ap₂ asNumber (en ∙ ap numberOf handed) refl ∙ rw k
+
+-- a plain number that is all of a text
+pub plain-whole : (s : List ℕ) (n : N.Number) (len : ℕ) (p : Plain) → Begins s p → p ≡ Is n len → len ≡ length s → n ≡ numberOf s
+plain-whole s n len p b e h = let (k, q) = subst (Begins s) e b in q ∙ ap numberOf (take-all len s (omega (arith, h)))
 
 module _ (l : List ℕ) (at : ℕ) (r : NextNumber) (h : Numbered l at r) where
   module _ (n : N.Number) (end : ℕ) (e : r ≡ next.Is n end) where

@@ -27,7 +27,7 @@ abbrev pub tookFlag : List ℕ → TookFlag → Took Bool
 tookFlag l (Flag b next) = took b (fieldsAt l next)
 tookFlag l (NoFlag why) = refused why
 
--- the next field of l from the place `at` on is that number, and the others stand from its end on; or there is none
+-- the next field of l from the place `at` on is that number, and the others stand from the place `end` on; or there is none
 abbrev pub Numbered : List ℕ → ℕ → NextNumber → Type 0
 Numbered l at (next.Is n end) = (f : Name) × (fieldsAt l at ≡ f ∷ fieldsAt l end) × (n ≡ numberOf (f .letters))
 Numbered l at next.Missing = fieldsAt l at ≡ []

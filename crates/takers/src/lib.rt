@@ -1,6 +1,7 @@
 // Takes the next field of a line as a number or a flag. A line is the caller's text up to the line's end, with the place where its next field is looked for:
 // so every place is a place of the text. Names are taken by fields::next_field.
 ghost use mathlib.Core.Path.{_≡_};
+ghost use Rattle.decimals.specs.Numbers.{numberOf};
 ghost use Rattle.fields.specs.Fields.{fieldsAt};
 ghost use Rattle.scope.specs.Values.{numberFrom, numberOr, swallowedFrom, flagFrom};
 ghost use Rattle.takers.specs.Taking.{tookNumber, tookFlag, numberTook, swallowTook, reasonIn, Numbered};
@@ -9,7 +10,7 @@ use decimals::Plain;
 use fields::Field;
 use scope::Reason;
 
-// A number and where its field ends, or why there is none.
+// A number and a place from which on the other fields stand, or why there is none.
 pub enum TookNumber {
     Number(f64, usize),
     NoNumber(Reason),
@@ -30,7 +31,7 @@ pub fn as_number(n: Number, next: usize) -> TookNumber
     }
 }
 
-// What number the next field is, and where it ends.
+// What number the next field is, and a place from which on the others stand.
 pub enum NextNumber {
     Is(Number, usize),
     Missing,
@@ -57,6 +58,10 @@ pub fn next_number(l: &[u8], at: usize) -> NextNumber
             return read_next(l, start);
         };
         let end = start + len;
+        // The byte there is whitespace, and was seen to be: what is taken next need not test it again.
+        if end < l.len() {
+            return NextNumber::Is(n, end + 1);
+        }
         return NextNumber::Is(n, end);
     }
     NextNumber::Missing
@@ -73,13 +78,32 @@ pub fn take_number(l: &[u8], at: usize) -> TookNumber
     as_number(n, end)
 }
 
-// A number that is read from the other text where it is missing.
+// What number a text is that is one field. Most are plain here too.
+fn whole_number(s: &[u8]) -> Number
+    ensures { λ r. ⌜ r ≡ numberOf (now (s .entry)) ⌝ }
+{
+    let p = decimals::plain_number(s);
+    let Plain::Is(n, len) = p else {
+        return decimals::read_number(s);
+    };
+    if len == s.len() {
+        return n;
+    }
+    decimals::read_number(s)
+}
+
+// A number that is read from the other text where it is missing. The field ends where the part of the line does that was handed out, so it is not scanned again.
 pub fn take_number_or<'a>(l: &'a [u8], at: usize, other: &'a [u8]) -> TookNumber
     ensures { λ r. ⌜ tookNumber (now (l .entry)) r ≡ numberOr (now (other .entry)) (fieldsAt (now (l .entry)) at) ⌝ }
 {
-    let text = fields::field_or(l, at, other);
-    let next = fields::past_field(l, at);
-    as_number(decimals::read_number(text), next)
+    let start = fields::field_start(l, at);
+    let text = fields::field_or(l, start, other);
+    let n = whole_number(text);
+    if start < l.len() {
+        let end = start + text.len();
+        return as_number(n, end);
+    }
+    as_number(n, at)
 }
 
 // A malformed number is `other`; one beyond reach is refused even here.

@@ -15,7 +15,7 @@ use Rattle.nodelines.proofs.read_junction.Tie as tie
 use Rattle.nodelines.proofs.read_junction.Reads as reads
 use Rattle.nodelines.proofs.read_junction.Lts as lts
 use Rattle.fields.proofs.next_field.Reads as next-field-reads
-use Rattle.fields.proofs.past_field.Reads as past-field-reads
+use Rattle.fields.proofs.field_end.Reads as field-end-reads
 use Rattle.takers.proofs.reason_of.Reads as reason-of-reads
 use Rattle.takers.proofs.take_flag.Reads as take-flag-reads
 use Rattle.takers.proofs.take_number_or.Reads as take-number-or-reads
@@ -82,8 +82,8 @@ returns-3 c = rw (s1 (c .before .before .before .before .before .before .before 
 next-field-requires-2 : tie.Need-next-field-requires-2
 next-field-requires-2 c κs = search needs
 
-past-field-requires : tie.Need-past-field-requires
-past-field-requires c κs = search needs
+field-end-requires : tie.Need-field-end-requires
+field-end-requires c κs = search needs
 
 take-flag-requires : tie.Need-take-flag-requires
 take-flag-requires c κs = search needs
@@ -96,11 +96,11 @@ enum-known-off-2 c = search needs
 
 returns-4 : tie.Need-returns-4
 unfolding junctionOf Ieee.ofBits
-returns-4 c = (rw (s1 (c .before .before .before .before .before .before .before .before .before .before .before .before .before .before .before) .0, s2 (c .before .before .before .before .before .before .before .before .before .before), s3 (c .before .before .before .before .before .before), optional (c .before .before .before .before .before .next-field2 .result) (c .before .before .before .before .before .next-field2 .ensures), ← c .before .before .before .before .past-field .ensures .left, sym (c .before .before .before .take-flag .ensures) ∙ ap (tookFlag (now (c .before .before .before .before .before .before .before .before .before .before .before .before .before .before .before .before .before .before .before .before .args .l))) (c .before .off .given .1)), s1 (c .before .before .before .before .before .before .before .before .before .before .before .before .before .before .before) .1, may-fit (c .before .before .before .before .before .next-field2 .result) (c .before .before .before .before .before .next-field2 .ensures))
+returns-4 c = (rw (s1 (c .before .before .before .before .before .before .before .before .before .before .before .before .before .before .before) .0, s2 (c .before .before .before .before .before .before .before .before .before .before), s3 (c .before .before .before .before .before .before), optional (c .before .before .before .before .before .next-field2 .result) (c .before .before .before .before .before .next-field2 .ensures), ← c .before .before .before .before .field-end .ensures _ (c .before .before .before .before .before .next-field2 .ensures) .left, sym (c .before .before .before .take-flag .ensures) ∙ ap (tookFlag (now (c .before .before .before .before .before .before .before .before .before .before .before .before .before .before .before .before .before .before .before .before .args .l))) (c .before .off .given .1)), s1 (c .before .before .before .before .before .before .before .before .before .before .before .before .before .before .before) .1, may-fit (c .before .before .before .before .before .next-field2 .result) (c .before .before .before .before .before .next-field2 .ensures))
 
 returns-5 : tie.Need-returns-5
 unfolding junctionOf Ieee.ofBits
-returns-5 c = rw (s1 (c .before .before .before .before .before .before .before .before .before .before .before .before .before .before .before) .0, s2 (c .before .before .before .before .before .before .before .before .before .before), s3 (c .before .before .before .before .before .before), optional (c .before .before .before .before .before .next-field2 .result) (c .before .before .before .before .before .next-field2 .ensures), ← c .before .before .before .before .past-field .ensures .left, sym (c .before .before .before .take-flag .ensures) ∙ ap (tookFlag (now (c .before .before .before .before .before .before .before .before .before .before .before .before .before .before .before .before .before .before .before .before .args .l))) (c .before .off2 .given .1))
+returns-5 c = rw (s1 (c .before .before .before .before .before .before .before .before .before .before .before .before .before .before .before) .0, s2 (c .before .before .before .before .before .before .before .before .before .before), s3 (c .before .before .before .before .before .before), optional (c .before .before .before .before .before .next-field2 .result) (c .before .before .before .before .before .next-field2 .ensures), ← c .before .before .before .before .field-end .ensures _ (c .before .before .before .before .before .next-field2 .ensures) .left, sym (c .before .before .before .take-flag .ensures) ∙ ap (tookFlag (now (c .before .before .before .before .before .before .before .before .before .before .before .before .before .before .before .before .before .before .before .before .args .l))) (c .before .off2 .given .1))
 
 pub read-junction-spec : {M : Type 1} → statement M
 read-junction-spec =
@@ -122,7 +122,7 @@ read-junction-spec =
     reason-of-requires-2
     returns-3
     next-field-requires-2
-    past-field-requires
+    field-end-requires
     take-flag-requires
     enum-known-off
     enum-known-off-2

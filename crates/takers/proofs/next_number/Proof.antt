@@ -1,7 +1,7 @@
 -- `takers::next_number` meets its contract. Assumes nothing.
 use denote.Ref.{now}
 use native.Mathlib.Omega.{arith}
-use Rattle.takers.proofs.TakeLaws.{numbered-from, numbered-none, numbered-plain, plain-fits}
+use Rattle.takers.proofs.TakeLaws.{numbered-from, numbered-none, numbered-plain, numbered-over, plain-fits}
 use borrow.Author.Needs.{needs}
 use Rattle.takers.proofs.next_number.Statement.{statement}
 use Rattle.takers.proofs.next_number.Tie as tie
@@ -42,14 +42,25 @@ add-end c =
     let a = b .before .before in
     omega (arith, a .good .0 .1, plain-fits (now (a .args .l)) (a .args .at) _ (b .field-start .ensures) (c .before .before .before .before .before .if1 .taken) _ _ _ (c .before .before .before .plain-number .ensures) (c .before .p .given .1))
 
+add-t15 : tie.Need-add-t15
+add-t15 c = search needs
+
 returns-2 : tie.Need-returns-2
 returns-2 c =
-    let b = c .before .before .before .before .before .before in
-    let a = b .before .before in
-    numbered-plain (now (a .args .l)) (a .args .at) _ (b .field-start .ensures) (c .before .before .before .before .before .if1 .taken) _ _ _ (c .before .before .before .plain-number .ensures) (c .before .p .given .1)
+    let d = c .before in
+    let b = d .before .before .before .before .before .before in
+    let a = b .before .before .args in
+    numbered-over (now (a .l)) (a .at) _ (b .field-start .ensures) (d .before .before .before .before .before .if1 .taken) _ _ _ (d .before .before .before .plain-number .ensures) (d .before .p .given .1) (c .if2 .taken)
 
 returns-3 : tie.Need-returns-3
 returns-3 c =
+    let d = c .before in
+    let b = d .before .before .before .before .before .before in
+    let a = b .before .before .args in
+    numbered-plain (now (a .l)) (a .at) _ (b .field-start .ensures) (d .before .before .before .before .before .if1 .taken) _ _ _ (d .before .before .before .plain-number .ensures) (d .before .p .given .1)
+
+returns-4 : tie.Need-returns-4
+returns-4 c =
     let a = c .before .before .before .args in
     numbered-none (now (a .l)) (a .at) _ (c .before .field-start .ensures) (c .if1 .left)
 
@@ -67,5 +78,7 @@ next-number-spec =
     read-next-requires
     returns
     add-end
+    add-t15
     returns-2
-    returns-3)
+    returns-3
+    returns-4)
