@@ -112,7 +112,7 @@ fn store_demand(
     ensures { λ r. ⌜ ((m : Network) → Holds (now (text .entry)) m s (now (words .entry)) (now (numbers .entry))
         → After (now (text .entry)) (setDemand (nameIn (now (text .entry)) (d .id)) (d .base) (optIn (now (text .entry)) (d .pattern)) m) r (now (words .entry)) (now (numbers .entry)) (now (words .exit)) (now (numbers .exit))) ⌝ }
 {
-    let found = tables::find_node(text, words, s.nodes, fields::letters_of(text, d.id));
+    let found = tables::node_named(text, words, s.nodes, d.id);
     let Found::At(i) = found else {
         return Kept::Refused(Reason::NotFound);
     };

@@ -2,14 +2,13 @@
 use Prim.Native.Nat.{ℕ, _+_, _*_, _≤_, _<_}
 use native.Mathlib.Omega.{arith}
 use borrow.Author.Tests.{lt-ltb, le-ltb}
-use mathlib.Core.Path.{_≡_, refl, sym, ap, _∙_, subst}
+use mathlib.Core.Path.{_≡_, refl, ap, subst}
 use mathlib.Core.List.{List, [], _∷_, _++_}
 use mathlib.Core.Option.{Option, none, some}
 use lib.ListN.{length, getD, length-append}
 use lib.Ieee.{Float}
 use Rattle.fields.specs.Fields.{Name}
 use Rattle.scope.specs.declared.Reason.the-variants.{Used, NotFound, Full}
-use Rattle.scope.specs.declared.Found.{Found}
 use Rattle.scope.specs.declared.Found.the-variants.{At, Nowhere}
 use Rattle.scope.specs.declared.Counts.{Counts}
 use Rattle.scope.specs.Records.{Network, Link, LinkKind, pipe, pump, valve, lookup, nodeIds, linkIds}
@@ -40,9 +39,6 @@ pub link-row : (x : Link) {i k : List ℕ} → i ≡ idWords (x .id) → k ≡ l
 link-row x ei ek = rw (ei, ek) (ap (λ (r : List ℕ). idWords (x .id) ++ (x .start ∷ x .end ∷ r)) (kind-row (x .kind)))
 
 -- ---- looking the nodes up
-pub told-found : (ns : List Name) {a b : List ℕ} {r r′ : Found} → a ≡ b → r ≡ lookup ns a → r ≡ r′ → lookup ns b ≡ r′
-told-found ns e h k = rw (← e) (sym h ∙ k)
-
 pub told-ends : (o : Read Ends) {r r′ : EndsFound} → r ≡ r′ → EndsAs o r → EndsAs o r′
 told-ends o e h = subst (λ (x : EndsFound). EndsAs o x) e h
 

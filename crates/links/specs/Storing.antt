@@ -2,8 +2,7 @@
 use Prim.Native.Nat.{ℕ}
 use mathlib.Core.Path.{_≡_}
 use mathlib.Core.List.{List}
-use Rattle.fields.specs.Fields.{nameIn}
-use Rattle.fields.specs.declared.Span.{Span}
+use Rattle.fields.specs.Fields.{Name}
 use Rattle.scope.specs.declared.Reason.the-variants.{NotFound}
 use Rattle.scope.specs.Records.{Link}
 use Rattle.scope.specs.Values.{Read, good, bad}
@@ -13,8 +12,8 @@ use Rattle.linklines.specs.declared.LinkKind.{LinkKind}
 use Rattle.links.specs.declared.EndsFound.{EndsFound}
 use Rattle.links.specs.declared.EndsFound.the-variants.{Both, NotBoth}
 
-abbrev pub linkIn : List ℕ → Span → ℕ → ℕ → LinkKind → Link
-linkIn text id from to k = record { id = nameIn text id; start = from; end = to; kind = kindIn text k }
+abbrev pub linkIn : List ℕ → Name → ℕ → ℕ → LinkKind → Link
+linkIn text id from to k = record { id = id; start = from; end = to; kind = kindIn text k }
 
 -- ---- the places of the two nodes
 abbrev pub endsAt : ℕ → ℕ → Ends

@@ -3,10 +3,10 @@ ghost use mathlib.Core.Path.{_≡_};
 ghost use mathlib.Core.List.{List};
 ghost use Prim.Native.Nat.{ℕ, _+_, _*_, _≤_, _<_};
 ghost use lib.ListN.{length, take};
-ghost use Rattle.fields.specs.Fields.{fieldsAt, nameIn, Fits};
+ghost use Rattle.fields.specs.Fields.{Name, fieldsAt, nameIn, Fits};
 ghost use Rattle.scope.specs.Records.{Network};
 ghost use Rattle.scope.specs.Links.{endsOf, addLink, storeLink, pipeStep, pumpStep, valveStep};
-ghost use Rattle.scope.specs.Tables.{recordWords, roomNumbers, linkKindWords, linkNumbersOf, linkNumbers};
+ghost use Rattle.scope.specs.Tables.{recordWords, roomNumbers, idWords, linkKindWords, linkNumbersOf, linkNumbers};
 ghost use Rattle.tables.specs.Table.{splice};
 ghost use Rattle.tables.specs.Layout.{linkNumbersAt, linkNumbersSize};
 ghost use Rattle.tables.specs.Adding.{linkAdded};
@@ -36,11 +36,11 @@ fn find_ends(text: &[u8], names: LinkNames, nodes: usize, words: &[u64]) -> Ends
     ensures { λ r. ⌜ ((m : Network) → Words (now (text .entry)) m (now (words .entry)) → nodes ≡ length (m .nodes)
         → EndsAs (endsOf (nameIn (now (text .entry)) (names .start)) (nameIn (now (text .entry)) (names .end)) m) r) ⌝ }
 {
-    let first = tables::find_node(text, words, nodes, fields::letters_of(text, names.start));
+    let first = tables::node_named(text, words, nodes, names.start);
     let Found::At(from) = first else {
         return EndsFound::NotBoth;
     };
-    let second = tables::find_node(text, words, nodes, fields::letters_of(text, names.end));
+    let second = tables::node_named(text, words, nodes, names.end);
     let Found::At(to) = second else {
         return EndsFound::NotBoth;
     };
@@ -80,31 +80,31 @@ fn kind_numbers(kind: LinkKind) -> [f64; 4]
     }
 }
 
-// A link, number n.
+// A link, number n; `who` are the words of its id.
 fn put_link(
     text: &[u8],
     words: &mut [u64],
     numbers: &mut [f64],
     n: usize,
-    id: Span,
+    who: [u64; 3],
     from: usize,
     to: usize,
     kind: LinkKind,
 )
     requires { ⌜ (n < 256) × (length (now words) ≡ recordWords) × (length (now numbers) ≡ roomNumbers) ⌝ }
-    ensures { λ _. ⌜ (now (words .exit) ≡ linkAdded (now (words .entry)) n (linkIn (now (text .entry)) id from to kind))
-        × (now (numbers .exit) ≡ splice (now (numbers .entry)) (linkNumbersAt + n * linkNumbersSize) (linkNumbers (linkIn (now (text .entry)) id from to kind))) ⌝ }
+    ensures { λ _. ⌜ ((id : Name) → who ≡ idWords id
+        → (now (words .exit) ≡ linkAdded (now (words .entry)) n (linkIn (now (text .entry)) id from to kind))
+        × (now (numbers .exit) ≡ splice (now (numbers .entry)) (linkNumbersAt + n * linkNumbersSize) (linkNumbers (linkIn (now (text .entry)) id from to kind)))) ⌝ }
 {
-    let i = tables::id_words(text, id);
     let k = kind_words(text, kind);
     let x = kind_numbers(kind);
     tables::paste_words(
         words,
         tables::LINKS + n * tables::LINK_WORDS,
         &[
-            i[0],
-            i[1],
-            i[2],
+            who[0],
+            who[1],
+            who[2],
             from as u64,
             to as u64,
             k[0],
@@ -113,7 +113,7 @@ fn put_link(
             k[3],
         ],
     );
-    let slot = tables::slot_of(i[2]);
+    let slot = tables::slot_of(who[2]);
     tables::mark(words, tables::LINK_SLOTS + slot, n);
     tables::paste_numbers(
         numbers,
@@ -138,12 +138,13 @@ fn add_link(
         → After (now (text .entry)) (addLink (nameIn (now (text .entry)) id) (endsAt from to) (kindIn (now (text .entry)) kind) m) r (now (words .entry)) (now (numbers .entry)) (now (words .exit)) (now (numbers .exit))) ⌝ }
 {
     let n = s.links;
-    let found = tables::find_link(text, words, n, fields::letters_of(text, id));
+    let who = tables::id_words(text, id);
+    let found = tables::find_link_by(text, words, n, who[2], fields::letters_of(text, id));
     if let Found::At(_) = found {
         return Kept::Refused(Reason::Used);
     }
     if n < 256 {
-        put_link(text, words, numbers, n, id, from, to, kind);
+        put_link(text, words, numbers, n, who, from, to, kind);
         let mut t = s;
         t.links = n + 1;
         return Kept::Stored(t);

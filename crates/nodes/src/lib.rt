@@ -2,11 +2,11 @@
 ghost use mathlib.Core.Path.{_≡_};
 ghost use Prim.Native.Nat.{_+_, _*_, _%_, _≤_, _<_};
 ghost use lib.ListN.{length, take};
-ghost use Rattle.fields.specs.Fields.{fieldsAt, nameIn, part, Fits, optIn, MayFit};
+ghost use Rattle.fields.specs.Fields.{Name, fieldsAt, nameIn, part, Fits, optIn, MayFit};
 ghost use Rattle.scope.specs.Records.{Network, Node, NodeKind, lookup, nodeIds};
 ghost use Rattle.scope.specs.Values.{Read, onRead};
 ghost use Rattle.scope.specs.Nodes.{junctionNode, tankNode, junctionDemand, addJunction, addNode, junctionStep, reservoirStep, tankStep};
-ghost use Rattle.scope.specs.Tables.{keyOf, marked, slotOf, nodeNumbers, demandNumbers, recordWords, roomNumbers};
+ghost use Rattle.scope.specs.Tables.{keyOf, marked, slotOf, idWords, nodeNumbers, demandNumbers, recordWords, roomNumbers};
 ghost use Rattle.tables.specs.Table.{splice};
 ghost use Rattle.tables.specs.Layout.{nodesAt, nodeSize, nodeSlotsAt, nodeNumbersAt, nodeNumbersSize, demandsAt, demandSize, demandSlotsAt, demandNumbersAt};
 ghost use Rattle.tables.specs.Adding.{nodeAdded, demandAdded};
@@ -31,20 +31,19 @@ const NODE_ROOM: usize = 256;
 
 const DEMAND_ROOM: usize = 512;
 
-// Where the node of that name stands.
-pub fn node_named(text: &[u8], words: &[u64], nodes: usize, name: Span) -> Found
-    requires { ⌜ ((m : Network) × Words (now text) m (now words) × (nodes ≡ length (m .nodes))) ⌝ }
-    ensures { λ r. ⌜ ((m : Network) → Words (now (text .entry)) m (now (words .entry)) → nodes ≡ length (m .nodes) → r ≡ lookup (nodeIds m) (part (name .at) (name .end) (now (text .entry)))) ⌝ }
-{
-    tables::find_node(text, words, nodes, fields::letters_of(text, name))
-}
-
-// The words of node `i`, which has no place yet: a reservoir has a pattern's name, a tank a curve's; `last` is what its kind keeps in the last word.
-fn put_node(text: &[u8], i: usize, id: Span, kind: u64, name: Field, last: u64, words: &mut [u64])
+// The words of node `i`, which has no place yet: `who` are its id's; a reservoir has a pattern's name, a tank a curve's; `last` is what its kind keeps in the last word.
+fn put_node(
+    text: &[u8],
+    i: usize,
+    who: [u64; 3],
+    kind: u64,
+    name: Field,
+    last: u64,
+    words: &mut [u64],
+)
     requires { ⌜ (i < 256) × (length (now words) ≡ recordWords) ⌝ }
-    ensures { λ _. ⌜ now (words .exit) ≡ marked (splice (now (words .entry)) (nodesAt + i * nodeSize) (newWords (nameIn (now (text .entry)) id) kind (optIn (now (text .entry)) name) last)) (nodeSlotsAt + slotOf (keyOf (nameIn (now (text .entry)) id .letters))) (i + 1) ⌝ }
+    ensures { λ _. ⌜ ((id : Name) → who ≡ idWords id → now (words .exit) ≡ marked (splice (now (words .entry)) (nodesAt + i * nodeSize) (newWords id kind (optIn (now (text .entry)) name) last)) (nodeSlotsAt + slotOf (keyOf (id .letters))) (i + 1)) ⌝ }
 {
-    let who = tables::id_words(text, id);
     let which = tables::name_words(text, name);
     tables::paste_words(
         words,
@@ -69,23 +68,23 @@ fn put_demand(text: &[u8], d: usize, n: usize, pattern: Field, words: &mut [u64]
     tables::mark(words, tables::DEMAND_SLOTS + n % 256, d);
 }
 
-// A junction as node `n`, with its own demand as demand `d`.
+// A junction as node `n`, with its own demand as demand `d`; `who` are the words of its id.
 fn put_junction(
     text: &[u8],
     j: JunctionLine,
+    who: [u64; 3],
     n: usize,
     d: usize,
     words: &mut [u64],
     numbers: &mut [f64],
 )
-    requires { ⌜ (n < 256) × (d < 512) × (length (now words) ≡ recordWords) × (length (now numbers) ≡ roomNumbers) ⌝ }
+    requires { ⌜ (n < 256) × (d < 512) × (length (now words) ≡ recordWords) × (length (now numbers) ≡ roomNumbers) × (who ≡ idWords (nameIn (now text) (j .id))) ⌝ }
     ensures { λ _. ⌜ (now (words .exit) ≡ demandAdded (nodeAdded (now (words .entry)) n (junctionNode (junctionIn (now (text .entry)) j))) d (junctionDemand n (junctionIn (now (text .entry)) j)))
         × (now (numbers .exit) ≡ splice (splice (now (numbers .entry)) (nodeNumbersAt + n * nodeNumbersSize) (nodeNumbers (junctionNode (junctionIn (now (text .entry)) j)))) (demandNumbersAt + d) (demandNumbers (junctionDemand n (junctionIn (now (text .entry)) j)))) ⌝ }
 {
-    let id = j.id;
     let pattern = j.pattern;
     let disabled = tables::flag_of(j.disabled);
-    put_node(text, n, id, 1, Field::Nothing, disabled, words);
+    put_node(text, n, who, 1, Field::Nothing, disabled, words);
     put_demand(text, d, n, pattern, words);
     tables::paste_numbers(
         numbers,
@@ -108,13 +107,14 @@ fn store_junction(
 {
     let n = s.nodes;
     let d = s.demands;
-    let found = node_named(text, words, n, j.id);
+    let who = tables::id_words(text, j.id);
+    let found = tables::find_node_by(text, words, n, who[2], fields::letters_of(text, j.id));
     if let Found::At(_) = found {
         return Kept::Refused(Reason::Used);
     }
     if n < NODE_ROOM {
         if d < DEMAND_ROOM {
-            put_junction(text, j, n, d, words, numbers);
+            put_junction(text, j, who, n, d, words, numbers);
             let mut t = s;
             t.nodes = n + 1;
             t.demands = d + 1;
@@ -141,12 +141,13 @@ fn store_node(
         → After (now (text .entry)) (addNode (newNode (nameIn (now (text .entry)) id) k) m) r (now (words .entry)) (now (numbers .entry)) (now (words .exit)) (now (numbers .exit))) ⌝ }
 {
     let n = s.nodes;
-    let found = node_named(text, words, n, id);
+    let who = tables::id_words(text, id);
+    let found = tables::find_node_by(text, words, n, who[2], fields::letters_of(text, id));
     if let Found::At(_) = found {
         return Kept::Refused(Reason::Used);
     }
     if n < NODE_ROOM {
-        put_node(text, n, id, kind, name, last, words);
+        put_node(text, n, who, kind, name, last, words);
         tables::paste_numbers(
             numbers,
             tables::NODE_NUMBERS + n * tables::NUMBERS_OF_NODE,

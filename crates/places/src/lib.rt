@@ -29,7 +29,7 @@ fn store_emitter(
     ensures { λ r. ⌜ ((m : Network) → Holds (now (text .entry)) m s (now (words .entry)) (now (numbers .entry))
         → After (now (text .entry)) (setEmitter (nameIn (now (text .entry)) (e .id)) (e .coefficient) m) r (now (words .entry)) (now (numbers .entry)) (now (words .exit)) (now (numbers .exit))) ⌝ }
 {
-    let found = nodes::node_named(text, words, s.nodes, e.id);
+    let found = tables::node_named(text, words, s.nodes, e.id);
     let Found::At(i) = found else {
         return Kept::Refused(Reason::NotFound);
     };
@@ -56,7 +56,7 @@ fn store_coordinates(
     ensures { λ r. ⌜ ((m : Network) → Holds (now (text .entry)) m s (now (words .entry)) (now (numbers .entry))
         → After (now (text .entry)) (setPlace (nameIn (now (text .entry)) (p .id)) (placeIn (now (text .entry)) p .at) m) r (now (words .entry)) (now (numbers .entry)) (now (words .exit)) (now (numbers .exit))) ⌝ }
 {
-    let found = nodes::node_named(text, words, s.nodes, p.id);
+    let found = tables::node_named(text, words, s.nodes, p.id);
     let Found::At(i) = found else {
         return Kept::Refused(Reason::NotFound);
     };

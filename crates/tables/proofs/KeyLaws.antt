@@ -12,7 +12,7 @@ use Rattle.scope.specs.Tables.{packed, keyOf}
 abbrev pub Bytes : List ℕ → Type 0
 Bytes l = (i : ℕ) → getD l i 0 < 256
 
-bytes-take : (n : ℕ) (l : List ℕ) → Bytes l → Bytes (take n l)
+pub bytes-take : (n : ℕ) (l : List ℕ) → Bytes l → Bytes (take n l)
 bytes-take zero l p i = omega arith
 bytes-take (suc n) [] p i = omega arith
 bytes-take (suc n) (x ∷ l) p zero = p 0

@@ -9,6 +9,7 @@ pub mod EmptyLaws
 pub mod ReadLaws
 pub mod ClearLaws
 pub mod KeyLaws
+pub mod PackLaws
 pub mod LookLaws
 pub mod WalkLaws
 pub mod StartLaws

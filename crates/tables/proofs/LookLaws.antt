@@ -12,7 +12,7 @@ use Rattle.fields.specs.Fields.{Name, part}
 use Rattle.letters.specs.Words.{same}
 use Rattle.letters.proofs.WordLaws.{same-equal, same-iff}
 use Rattle.scope.specs.Records.{lookupFrom, lookup, noName}
-use Rattle.scope.specs.Tables.{packed, keyOf}
+use Rattle.scope.specs.Tables.{packed, keyOf, idWords}
 use Rattle.scope.specs.declared.Found.{Found}
 use Rattle.scope.specs.declared.Found.the-variants.{At, Nowhere}
 use Rattle.tables.specs.Holding.{Sits, Row, Rows, Below}
@@ -109,3 +109,11 @@ found-below ns word {i} e = omega (arith, from-below 0 ns word i e)
 pub below-bound : (ns : List Name) (word : List ℕ) (bound : ℕ) (f : Found) → f ≡ lookup ns word → length ns ≤ bound → Below bound f
 below-bound ns word bound (At i) e h = omega (arith, found-below ns word (sym e))
 below-bound ns word bound Nowhere e h = tt
+
+-- the name as its place in the text has it, and the answer as a branch takes it
+pub told-found : (ns : List Name) {a b : List ℕ} {r r′ : Found} → a ≡ b → r ≡ lookup ns a → r ≡ r′ → lookup ns b ≡ r′
+told-found ns e h k = rw (← e) (sym h ∙ k)
+
+-- the key among the words of a name is that of its letters
+pub told-key : (n : Name) {who l : List ℕ} → who ≡ idWords n → l ≡ n .letters → getD who 2 0 ≡ keyOf l
+told-key n e k = ap (λ (w : List ℕ). getD w 2 0) e ∙ ap keyOf (sym k)

@@ -2,13 +2,13 @@
 ghost use mathlib.Core.Path.{_≡_};
 ghost use mathlib.Core.List.{List};
 ghost use Prim.Native.Nat.{ℕ, _+_, _≤_, _<_};
-ghost use lib.ListN.{length, getD, replicate};
-ghost use Rattle.fields.specs.Fields.{Name, nameIn};
+ghost use lib.ListN.{length, getD, take, replicate};
+ghost use Rattle.fields.specs.Fields.{Name, nameIn, part};
 ghost use Rattle.letters.specs.Words.{same};
 ghost use Rattle.scope.specs.Records.{Network, zeroF, lookup, nodeIds, linkIds, ruleIds, noNode};
 ghost use Rattle.scope.specs.Rules.{noLink, isPipe, isPump, isValve};
 ghost use Rattle.scope.specs.Series.{placeIn};
-ghost use Rattle.scope.specs.Tables.{recordWords, keyOf, marked, slotOf, idWords, nameWords, flag, indexNo};
+ghost use Rattle.scope.specs.Tables.{recordWords, packed, keyOf, marked, slotOf, idWords, nameWords, flag, indexNo};
 ghost use Rattle.tables.specs.Table.{splice};
 ghost use Rattle.tables.specs.Holding.{optIn, Words, Row, Rows, SomeRow, SomeRows, OtherNames, NotInSlot, FirstInSlot, Below, isJunction};
 use fields::Field;
@@ -151,6 +151,55 @@ pub fn name_key(name: &[u8]) -> u64
     k
 }
 
+// Four bytes as one number, the first the highest.
+fn four_letters(b: &[u8]) -> u64
+    requires { ⌜ length (now b) ≡ 4 ⌝ }
+    ensures { λ r. ⌜ r ≡ packed 0 (now (b .entry)) ⌝ }
+{
+    ((b[0] as u64 * 256 + b[1] as u64) * 256 + b[2] as u64) * 256 + b[3] as u64
+}
+
+// Eight bytes as one number. The compiler loads them at once.
+fn eight_letters(b: &[u8]) -> u64
+    requires { ⌜ length (now b) ≡ 8 ⌝ }
+    ensures { λ r. ⌜ r ≡ packed 0 (now (b .entry)) ⌝ }
+{
+    four_letters(&b[..4]) * 0x1_0000_0000 + four_letters(&b[4..])
+}
+
+// The first n letters as one number, letter by letter. The compiler never puts a function that calls itself in the place of its call: here that is wanted, as few names get here and
+// a loop in each place where a name is looked up costs more than the call.
+fn far_key(l: &[u8], n: usize) -> u64
+    requires { ⌜ (n ≤ 8) × (n ≤ length (now l)) ⌝ }
+    ensures { λ r. ⌜ r ≡ packed 0 (take n (now (l .entry))) ⌝ }
+{
+    if n == 0 {
+        return 0;
+    }
+    let m = n - 1;
+    far_key(l, m) * 256 + l[m] as u64
+}
+
+// The key of a name where it stands in the text. Of a short name with more text behind it eight bytes are taken at once, and those that are not its own shifted out.
+pub fn key_at(text: &[u8], name: Span) -> u64
+    ensures { λ r. ⌜ r ≡ keyOf (part (name .at) (name .end) (now (text .entry))) ⌝ }
+{
+    let l = fields::letters_of(text, name);
+    let n = l.len();
+    if n == 0 {
+        return 0;
+    }
+    if 8 <= n {
+        return far_key(l, 8);
+    }
+    let at = name.at;
+    if 8 <= text.len() - at {
+        let e = at + 8;
+        return eight_letters(&text[at..e]) >> (64 - 8 * n);
+    }
+    far_key(l, n)
+}
+
 // ---- slots: where a walk over the rows of a table may start
 
 // The slot of a record among those of its table, by the key of its name.
@@ -233,21 +282,37 @@ fn find_name(
     Found::Nowhere
 }
 
-pub fn find_node(text: &[u8], words: &[u64], count: usize, name: &[u8]) -> Found
-    requires { ⌜ ((m : Network) × Words (now text) m (now words) × (count ≡ length (m .nodes))) ⌝ }
+// The node of the name that has the key.
+pub fn find_node_by(text: &[u8], words: &[u64], count: usize, key: u64, name: &[u8]) -> Found
+    requires { ⌜ ((m : Network) × Words (now text) m (now words) × (count ≡ length (m .nodes))) × (key ≡ keyOf (now name)) ⌝ }
     ensures { λ r. ⌜ ((m : Network) → Words (now (text .entry)) m (now (words .entry)) → count ≡ length (m .nodes) → r ≡ lookup (nodeIds m) (now (name .entry))) ⌝ }
 {
-    let key = name_key(name);
     let slot = slot_of(key);
     let from = first_in_slot(words, NODE_SLOTS + slot, count);
     find_name(text, words, NODES, NODE_WORDS, from, count, key, name)
+}
+
+// Where the node of the name stands.
+pub fn node_named(text: &[u8], words: &[u64], nodes: usize, name: Span) -> Found
+    requires { ⌜ ((m : Network) × Words (now text) m (now words) × (nodes ≡ length (m .nodes))) ⌝ }
+    ensures { λ r. ⌜ ((m : Network) → Words (now (text .entry)) m (now (words .entry)) → nodes ≡ length (m .nodes) → r ≡ lookup (nodeIds m) (part (name .at) (name .end) (now (text .entry)))) ⌝ }
+{
+    let l = fields::letters_of(text, name);
+    find_node_by(text, words, nodes, key_at(text, name), l)
 }
 
 pub fn find_link(text: &[u8], words: &[u64], count: usize, name: &[u8]) -> Found
     requires { ⌜ ((m : Network) × Words (now text) m (now words) × (count ≡ length (m .links))) ⌝ }
     ensures { λ r. ⌜ ((m : Network) → Words (now (text .entry)) m (now (words .entry)) → count ≡ length (m .links) → r ≡ lookup (linkIds m) (now (name .entry))) ⌝ }
 {
-    let key = name_key(name);
+    find_link_by(text, words, count, name_key(name), name)
+}
+
+// The same, of the name that has the key.
+pub fn find_link_by(text: &[u8], words: &[u64], count: usize, key: u64, name: &[u8]) -> Found
+    requires { ⌜ ((m : Network) × Words (now text) m (now words) × (count ≡ length (m .links))) × (key ≡ keyOf (now name)) ⌝ }
+    ensures { λ r. ⌜ ((m : Network) → Words (now (text .entry)) m (now (words .entry)) → count ≡ length (m .links) → r ≡ lookup (linkIds m) (now (name .entry))) ⌝ }
+{
     let slot = slot_of(key);
     let from = first_in_slot(words, LINK_SLOTS + slot, count);
     find_name(text, words, LINKS, LINK_WORDS, from, count, key, name)
@@ -288,7 +353,7 @@ pub fn id_words(text: &[u8], id: Span) -> [u64; 3]
     ensures { λ r. ⌜ r ≡ idWords (nameIn (now (text .entry)) id) ⌝ }
 {
     let l = fields::letters_of(text, id);
-    [id.at as u64, l.len() as u64, name_key(l)]
+    [id.at as u64, l.len() as u64, key_at(text, id)]
 }
 
 // The place and the length of a name that may be missing.

@@ -17,14 +17,10 @@ use Rattle.links.proofs.put_link.Reads as reads
 use Rattle.links.proofs.put_link.Lts as lts
 use Rattle.links.proofs.kind_numbers.Reads as kind-numbers-reads
 use Rattle.links.proofs.kind_words.Reads as kind-words-reads
-use Rattle.tables.proofs.id_words.Reads as id-words-reads
 use Rattle.tables.proofs.mark.Reads as mark-reads
 use Rattle.tables.proofs.paste_numbers.Reads as paste-numbers-reads
 use Rattle.tables.proofs.paste_words.Reads as paste-words-reads
 use Rattle.tables.proofs.slot_of.Reads as slot-of-reads
-
-id-words-requires : tie.Need-id-words-requires
-id-words-requires c κs = search needs
 
 kind-words-requires : tie.Need-kind-words-requires
 kind-words-requires c κs = search needs
@@ -41,23 +37,23 @@ add-paste-words c = search needs
 array-read-slot-of : tie.Need-array-read-slot-of
 array-read-slot-of c = search needs
 
-array-read-t27 : tie.Need-array-read-t27
-array-read-t27 c = search needs
+array-read-t26 : tie.Need-array-read-t26
+array-read-t26 c = search needs
 
-array-read-t30 : tie.Need-array-read-t30
-array-read-t30 c = search needs
+array-read-t29 : tie.Need-array-read-t29
+array-read-t29 c = search needs
 
-array-read-t35 : tie.Need-array-read-t35
-array-read-t35 c = search needs
+array-read-t34 : tie.Need-array-read-t34
+array-read-t34 c = search needs
 
-array-read-t38 : tie.Need-array-read-t38
-array-read-t38 c = search needs
+array-read-t37 : tie.Need-array-read-t37
+array-read-t37 c = search needs
 
-array-read-t41 : tie.Need-array-read-t41
-array-read-t41 c = search needs
+array-read-t40 : tie.Need-array-read-t40
+array-read-t40 c = search needs
 
-array-read-t44 : tie.Need-array-read-t44
-array-read-t44 c = search needs
+array-read-t43 : tie.Need-array-read-t43
+array-read-t43 c = search needs
 
 slice-aggregate-paste-words : tie.Need-slice-aggregate-paste-words
 slice-aggregate-paste-words c = search needs
@@ -96,13 +92,12 @@ same-length-2 : tie.Need-same-length-2
 same-length-2 c = search needs
 
 returns : tie.Need-returns
-returns c =
-    let a = c .before .before .before .before .before .before .before .before .before .before .before .before .before .before .before .before .before .before .before .before .before .args in
-    let id = c .before .before .before .before .before .before .before .before .before .before .before .before .before .before .before .before .before .id-words .ensures in
-    let link = linkIn (now (a .text)) (a .id) (a .from) (a .to) (a .kind) in (
+returns c = λ id e.
+    let a = c .before .before .before .before .before .before .before .before .before .before .before .before .before .before .before .before .before .before .before .before .args in
+    let link = linkIn (now (a .text)) id (a .from) (a .to) (a .kind) in (
       mark-alike (a .n + 1) (c .before .before .before .before .before .before .before .mark .ensures)
-          (c .before .before .before .before .before .before .before .before .before .before .before .before .paste-words .ensures ∙ ap (λ (r : List ℕ). splice (now (a .words)) (linksAt + a .n * linkSize) r) (link-row link id (c .before .before .before .before .before .before .before .before .before .before .before .before .before .before .before .before .kind-words .ensures)))
-          (ap (λ (k : ℕ). linkSlotsAt + k) (c .before .before .before .before .before .before .before .before .before .slot-of .ensures ∙ ap (λ (l : List ℕ). slotOf (getD l 2 0)) id)),
+          (c .before .before .before .before .before .before .before .before .before .before .before .before .paste-words .ensures ∙ ap (λ (r : List ℕ). splice (now (a .words)) (linksAt + a .n * linkSize) r) (link-row link e (c .before .before .before .before .before .before .before .before .before .before .before .before .before .before .before .before .kind-words .ensures)))
+          (ap (λ (k : ℕ). linkSlotsAt + k) (c .before .before .before .before .before .before .before .before .before .slot-of .ensures ∙ ap (λ (l : List ℕ). slotOf (getD l 2 0)) e)),
       c .before .before .paste-numbers .ensures ∙ ap (λ (r : List Float). splice (now (a .numbers)) (linkNumbersAt + a .n * linkNumbersSize) r) (c .before .before .before .before .before .before .before .before .before .before .before .before .before .before .before .kind-numbers .ensures (now (a .text))),
     )
 
@@ -110,18 +105,17 @@ pub put-link-spec : {M : Type 1} → statement M
 put-link-spec =
     tie.close
     (tie.spec
-    id-words-requires
     kind-words-requires
     kind-numbers-requires
     mul-paste-words
     add-paste-words
     array-read-slot-of
-    array-read-t27
-    array-read-t30
-    array-read-t35
-    array-read-t38
-    array-read-t41
-    array-read-t44
+    array-read-t26
+    array-read-t29
+    array-read-t34
+    array-read-t37
+    array-read-t40
+    array-read-t43
     slice-aggregate-paste-words
     paste-words-requires
     array-read-slot-of-2

@@ -62,10 +62,11 @@ same-length-2 c = search needs
 returns : tie.Need-returns
 unfolding Ieee.ofBits
 returns c =
-    let a = c .before .before .before .before .before .before .before .before .before .before .before .before .before .before .before .before .before .before .before .before .before .before .before .args in
+    let s = c .before .before .before .before .before .before .before .before .before .before .before .before .before .before .before .before .before .before .before .before .before .before in
+    let a = s .args in
     let own = junctionDemand (a .n) (junctionIn (now (a .text)) (a .j)) in (
       c .before .before .before .before .before .before .before .before .before .before .before .before .put-demand .ensures
-          ∙ ap (λ (l : List ℕ). demandAdded l (a .d) own) (c .before .before .before .before .before .before .before .before .before .before .before .before .before .before .before .before .put-node .ensures ∙ ap (λ (z : ℕ). marked (splice (now (a .words)) (nodesAt + a .n * nodeSize) (newWords (nameIn (now (a .text)) (a .j .id)) 1 none z)) (nodeSlotsAt + slotOf (keyOf (nameIn (now (a .text)) (a .j .id) .letters))) (a .n + 1)) (c .before .before .before .before .before .before .before .before .before .before .before .before .before .before .before .before .before .before .flag-of .ensures)),
+          ∙ ap (λ (l : List ℕ). demandAdded l (a .d) own) (c .before .before .before .before .before .before .before .before .before .before .before .before .before .before .before .before .put-node .ensures (nameIn (now (a .text)) (a .j .id)) (s .pre .4) ∙ ap (λ (z : ℕ). marked (splice (now (a .words)) (nodesAt + a .n * nodeSize) (newWords (nameIn (now (a .text)) (a .j .id)) 1 none z)) (nodeSlotsAt + slotOf (keyOf (nameIn (now (a .text)) (a .j .id) .letters))) (a .n + 1)) (c .before .before .before .before .before .before .before .before .before .before .before .before .before .before .before .before .before .before .flag-of .ensures)),
       c .before .before .paste-numbers2 .ensures ∙ ap (λ (l : List Float). splice l (demandNumbersAt + a .d) (a .j .demand ∷ [])) (c .before .before .before .before .before .before .before .paste-numbers .ensures),
     )
 

@@ -3,7 +3,7 @@ use mathlib.Core.Path.{ap, _∙_}
 use mathlib.Core.List.{List}
 use Prim.Native.Nat.{ℕ, _+_, _*_}
 use lib.ListN.{getD}
-use Rattle.fields.specs.Fields.{nameIn, optIn}
+use Rattle.fields.specs.Fields.{optIn}
 use Rattle.scope.specs.Tables.{slotOf}
 use Rattle.tables.specs.Table.{splice}
 use Rattle.tables.specs.Layout.{nodesAt, nodeSize, nodeSlotsAt}
@@ -14,14 +14,10 @@ use Rattle.nodes.proofs.put_node.Statement.{statement}
 use Rattle.nodes.proofs.put_node.Tie as tie
 use Rattle.nodes.proofs.put_node.Reads as reads
 use Rattle.nodes.proofs.put_node.Lts as lts
-use Rattle.tables.proofs.id_words.Reads as id-words-reads
 use Rattle.tables.proofs.mark.Reads as mark-reads
 use Rattle.tables.proofs.name_words.Reads as name-words-reads
 use Rattle.tables.proofs.paste_words.Reads as paste-words-reads
 use Rattle.tables.proofs.slot_of.Reads as slot-of-reads
-
-id-words-requires : tie.Need-id-words-requires
-id-words-requires c κs = search needs
 
 name-words-requires : tie.Need-name-words-requires
 name-words-requires c κs = search needs
@@ -35,17 +31,17 @@ add-paste-words c = search needs
 array-read-slot-of : tie.Need-array-read-slot-of
 array-read-slot-of c = search needs
 
-array-read-t24 : tie.Need-array-read-t24
-array-read-t24 c = search needs
+array-read-t23 : tie.Need-array-read-t23
+array-read-t23 c = search needs
 
-array-read-t27 : tie.Need-array-read-t27
-array-read-t27 c = search needs
+array-read-t26 : tie.Need-array-read-t26
+array-read-t26 c = search needs
 
-array-read-t30 : tie.Need-array-read-t30
-array-read-t30 c = search needs
+array-read-t29 : tie.Need-array-read-t29
+array-read-t29 c = search needs
 
-array-read-t33 : tie.Need-array-read-t33
-array-read-t33 c = search needs
+array-read-t32 : tie.Need-array-read-t32
+array-read-t32 c = search needs
 
 slice-aggregate-paste-words : tie.Need-slice-aggregate-paste-words
 slice-aggregate-paste-words c = search needs
@@ -69,27 +65,26 @@ same-length : tie.Need-same-length
 same-length c = search needs
 
 returns : tie.Need-returns
-returns c =
-    let a = c .before .before .before .before .before .before .before .before .before .before .before .before .before .before .args in
-    let id = c .before .before .before .before .before .before .before .before .before .before .before .id-words .ensures in
+returns c = λ id e.
+    let a = c .before .before .before .before .before .before .before .before .before .before .before .before .before .args in
+    let which = c .before .before .before .before .before .before .before .before .before .before .name-words in
     mark-alike (a .i + 1) (c .before .before .mark .ensures)
     (c .before .before .before .before .before .before .before .paste-words .ensures
-    ∙ ap (λ (l : List ℕ). splice (now (a .words)) (nodesAt + a .i * nodeSize) l) (new-words (c .before .before .before .before .before .before .before .before .before .before .before .id-words .result) (c .before .before .before .before .before .before .before .before .before .before .name-words .result) (nameIn (now (a .text)) (a .id)) (a .kind) (optIn (now (a .text)) (a .name)) (a .last) id (c .before .before .before .before .before .before .before .before .before .before .name-words .ensures)))
-    (ap (λ (k : ℕ). nodeSlotsAt + k) (c .before .before .before .before .slot-of .ensures ∙ ap (λ (l : List ℕ). slotOf (getD l 2 0)) id))
+    ∙ ap (λ (l : List ℕ). splice (now (a .words)) (nodesAt + a .i * nodeSize) l) (new-words (a .t3) (which .result) id (a .kind) (optIn (now (a .text)) (a .name)) (a .last) e (which .ensures)))
+    (ap (λ (k : ℕ). nodeSlotsAt + k) (c .before .before .before .before .slot-of .ensures ∙ ap (λ (l : List ℕ). slotOf (getD l 2 0)) e))
 
 pub put-node-spec : {M : Type 1} → statement M
 put-node-spec =
     tie.close
     (tie.spec
-    id-words-requires
     name-words-requires
     mul-paste-words
     add-paste-words
     array-read-slot-of
-    array-read-t24
-    array-read-t27
-    array-read-t30
-    array-read-t33
+    array-read-t23
+    array-read-t26
+    array-read-t29
+    array-read-t32
     slice-aggregate-paste-words
     paste-words-requires
     array-read-slot-of-2

@@ -8,7 +8,7 @@ use Rattle.places.proofs.store_coordinates.Statement.{statement}
 use Rattle.places.proofs.store_coordinates.Tie as tie
 use Rattle.places.proofs.store_coordinates.Reads as reads
 use Rattle.places.proofs.store_coordinates.Lts as lts
-use Rattle.nodes.proofs.node_named.Reads as node-named-reads
+use Rattle.tables.proofs.node_named.Reads as node-named-reads
 use Rattle.tables.proofs.paste_numbers.Reads as paste-numbers-reads
 use Rattle.tables.proofs.paste_words.Reads as paste-words-reads
 

@@ -9,7 +9,7 @@ use Rattle.places.proofs.store_emitter.Statement.{statement}
 use Rattle.places.proofs.store_emitter.Tie as tie
 use Rattle.places.proofs.store_emitter.Reads as reads
 use Rattle.places.proofs.store_emitter.Lts as lts
-use Rattle.nodes.proofs.node_named.Reads as node-named-reads
+use Rattle.tables.proofs.node_named.Reads as node-named-reads
 use Rattle.tables.proofs.is_junction.Reads as is-junction-reads
 use Rattle.tables.proofs.paste_numbers.Reads as paste-numbers-reads
 

@@ -1,55 +1,19 @@
-use native.Mathlib.Omega.{arith}
-use denote.Ref.{now}
-use mathlib.Core.Path.{ap, _∙_}
-use Rattle.scope.specs.Records.{linkIds}
-use Rattle.scope.specs.Tables.{slotOf}
-use Rattle.tables.proofs.EmptyLaws.{words-long}
-use Rattle.tables.proofs.ReadLaws.{link-rows, link-count}
-use Rattle.tables.proofs.StartLaws.{links-before}
 use borrow.Author.Needs.{needs}
 use Rattle.tables.proofs.find_link.Statement.{statement}
 use Rattle.tables.proofs.find_link.Tie as tie
 use Rattle.tables.proofs.find_link.Reads as reads
 use Rattle.tables.proofs.find_link.Lts as lts
-use Rattle.tables.proofs.find_name.Reads as find-name-reads
-use Rattle.tables.proofs.first_in_slot.Reads as first-in-slot-reads
+use Rattle.tables.proofs.find_link_by.Reads as find-link-by-reads
 use Rattle.tables.proofs.name_key.Reads as name-key-reads
-use Rattle.tables.proofs.slot_of.Reads as slot-of-reads
 
 name-key-requires : tie.Need-name-key-requires
 name-key-requires c κs = search needs
 
-slot-of-requires : tie.Need-slot-of-requires
-slot-of-requires c κs = search needs
-
-add-first-in-slot : tie.Need-add-first-in-slot
-add-first-in-slot c = search needs
-
-first-in-slot-requires : tie.Need-first-in-slot-requires
-first-in-slot-requires c κs = omega (arith, words-long (c .before .before .before .before .before .pre .1), c .slot-of .ensures)
-
-find-name-requires : tie.Need-find-name-requires
-find-name-requires c κs =
-    let p = c .before .before .before .before .before .before .pre in
-    let at = c .first-in-slot .ensures in
-    let slot = c .before .slot-of .ensures ∙ ap slotOf (c .before .before .name-key .ensures) in (
-      record { names = linkIds (p .0); long = p .2 ∙ link-count (p .0); rows = link-rows (p .1) },
-      omega arith,
-      c .before .before .name-key .ensures,
-      at .0,
-      links-before (p .1) (now (c .before .before .before .before .before .before .args .name)) (c .before .slot-of .result) (c .first-in-slot .result) slot (omega (arith, at .0, p .2)) (at .1),
-    )
+find-link-by-requires : tie.Need-find-link-by-requires
+find-link-by-requires c κs = search needs
 
 returns : tie.Need-returns
-returns c = λ m h e. c .find-name .ensures (linkIds m) (e ∙ link-count m) (link-rows h)
+returns c = c .find-link-by .ensures
 
 pub find-link-spec : {M : Type 1} → statement M
-find-link-spec =
-    tie.close
-    (tie.spec
-    name-key-requires
-    slot-of-requires
-    add-first-in-slot
-    first-in-slot-requires
-    find-name-requires
-    returns)
+find-link-spec = tie.close (tie.spec name-key-requires find-link-by-requires returns)

@@ -4,16 +4,16 @@ use Rattle.tables.proofs.id_words.Tie as tie
 use Rattle.tables.proofs.id_words.Reads as reads
 use Rattle.tables.proofs.id_words.Lts as lts
 use Rattle.fields.proofs.letters_of.Reads as letters-of-reads
-use Rattle.tables.proofs.name_key.Reads as name-key-reads
+use Rattle.tables.proofs.key_at.Reads as key-at-reads
 
 letters-of-requires : tie.Need-letters-of-requires
 letters-of-requires c κs = search needs
 
-name-key-requires : tie.Need-name-key-requires
-name-key-requires c κs = search needs
+key-at-requires : tie.Need-key-at-requires
+key-at-requires c κs = search needs
 
 returns : tie.Need-returns
-returns c = rw (c .name-key .ensures, c .before .letters-of .ensures)
+returns c = rw (c .key-at .ensures, c .before .letters-of .ensures)
 
 pub id-words-spec : {M : Type 1} → statement M
-id-words-spec = tie.close (tie.spec letters-of-requires name-key-requires returns)
+id-words-spec = tie.close (tie.spec letters-of-requires key-at-requires returns)

@@ -7,17 +7,13 @@ use Rattle.tables.proofs.EmptyLaws.{words-long}
 use Rattle.tables.proofs.ReadLaws.{node-rows, node-count}
 use Rattle.tables.proofs.StartLaws.{nodes-before}
 use borrow.Author.Needs.{needs}
-use Rattle.tables.proofs.find_node.Statement.{statement}
-use Rattle.tables.proofs.find_node.Tie as tie
-use Rattle.tables.proofs.find_node.Reads as reads
-use Rattle.tables.proofs.find_node.Lts as lts
+use Rattle.tables.proofs.find_node_by.Statement.{statement}
+use Rattle.tables.proofs.find_node_by.Tie as tie
+use Rattle.tables.proofs.find_node_by.Reads as reads
+use Rattle.tables.proofs.find_node_by.Lts as lts
 use Rattle.tables.proofs.find_name.Reads as find-name-reads
 use Rattle.tables.proofs.first_in_slot.Reads as first-in-slot-reads
-use Rattle.tables.proofs.name_key.Reads as name-key-reads
 use Rattle.tables.proofs.slot_of.Reads as slot-of-reads
-
-name-key-requires : tie.Need-name-key-requires
-name-key-requires c κs = search needs
 
 slot-of-requires : tie.Need-slot-of-requires
 slot-of-requires c κs = search needs
@@ -26,28 +22,28 @@ add-first-in-slot : tie.Need-add-first-in-slot
 add-first-in-slot c = search needs
 
 first-in-slot-requires : tie.Need-first-in-slot-requires
-first-in-slot-requires c κs = omega (arith, words-long (c .before .before .before .before .before .pre .1), c .slot-of .ensures)
+first-in-slot-requires c κs = omega (arith, words-long (c .before .before .before .before .pre .0 .1), c .slot-of .ensures)
 
 find-name-requires : tie.Need-find-name-requires
 find-name-requires c κs =
-    let p = c .before .before .before .before .before .before .pre in
+    let h = c .before .before .before .before .before .pre in
+    let p = h .0 in
     let at = c .first-in-slot .ensures in
-    let slot = c .before .slot-of .ensures ∙ ap slotOf (c .before .before .name-key .ensures) in (
+    let slot = c .before .slot-of .ensures ∙ ap slotOf (h .1) in (
       record { names = nodeIds (p .0); long = p .2 ∙ node-count (p .0); rows = node-rows (p .1) },
       omega arith,
-      c .before .before .name-key .ensures,
+      h .1,
       at .0,
-      nodes-before (p .1) (now (c .before .before .before .before .before .before .args .name)) (c .before .slot-of .result) (c .first-in-slot .result) slot (omega (arith, at .0, p .2)) (at .1),
+      nodes-before (p .1) (now (c .before .before .before .before .before .args .name)) (c .before .slot-of .result) (c .first-in-slot .result) slot (omega (arith, at .0, p .2)) (at .1),
     )
 
 returns : tie.Need-returns
 returns c = λ m h e. c .find-name .ensures (nodeIds m) (e ∙ node-count m) (node-rows h)
 
-pub find-node-spec : {M : Type 1} → statement M
-find-node-spec =
+pub find-node-by-spec : {M : Type 1} → statement M
+find-node-by-spec =
     tie.close
     (tie.spec
-    name-key-requires
     slot-of-requires
     add-first-in-slot
     first-in-slot-requires
