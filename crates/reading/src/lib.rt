@@ -61,6 +61,10 @@ fn run(text: &[u8], words: &mut [u64], numbers: &mut [f64]) -> Strict
                     };
                 }
             }
+        } else if steps::is_joined(&text[..e], at, section, s.grouped) {
+            // Most of the others join the open group: there too the state stays where it is.
+            let counts = s.counts;
+            s = s.moved(section, counts, e);
         } else {
             let k = headers::sort_of(&text[..e], at);
             let t = steps::take_turn(text, s, e, ends.cut, k, words, numbers);

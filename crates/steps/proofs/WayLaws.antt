@@ -31,7 +31,7 @@ use Rattle.tables.specs.declared.Kept.the-variants.{Stored, Refused}
 use Rattle.tables.proofs.AfterLaws.{after-stored, after-refused}
 use Rattle.headers.specs.Own.{sortIn, plainBy, groupFields}
 use Rattle.sections.specs.Storing.{passesOver, lineStep}
-use Rattle.steps.specs.Held.{Model, Stands, Fits, Plain, Stepped, Goes, ownLine, movedTo, joinedTo, shutTo, filedBy}
+use Rattle.steps.specs.Held.{Model, Stands, Fits, Plain, Stepped, Goes, ownLine, movedTo, joinedTo, shutTo, filedBy, joinedBy}
 use Rattle.steps.specs.declared.State.{State}
 use Rattle.steps.specs.declared.Turn.{Turn}
 use Rattle.headers.specs.declared.Sort.{Sort}
@@ -54,6 +54,18 @@ at-once p x z = go (isRules x) (passesOver x) z
 
 pub by-section : (p : Bool) (x : Section) → isRules x ≡ false → passesOver x ≡ false → p ≡ filedBy p x
 by-section p x a b = rw (a, b)
+
+-- a line that joins the open group: it is plain, the section is RULES, and a group is open
+to-join : (p : Bool) (x : Section) (g : Bool) → joinedBy p x g ≡ true → (p ≡ true) × (isRules x ≡ true) × (g ≡ true)
+to-join p x true z = let q = both (isRules x) p z in (q .1, q .0, refl)
+to-join p x false z = never z
+
+pub by-group : (p : Bool) (x : Section) (g : Bool) → g ≡ true → isRules x ≡ true → p ≡ joinedBy p x g
+by-group p x g a b = rw (a, b)
+
+-- where a group is open, to join it is to move on
+joined-open : (s : State) (e : ℕ) → s .grouped ≡ true → movedTo s (s .section) (s .counts) e ≡ joinedTo s e
+joined-open s e g = rw g
 
 -- ---- what the definitions say of a line
 becomes : {text w : List ℕ} {f : List Float} {s : State} {l : Line} {m : Model} {o o′ : Outcome Section Network} {r : Turn} → o ≡ o′ → Stepped text s l m o′ r w f → Stepped text s l m o r w f
@@ -272,19 +284,34 @@ module _ {text w : List ℕ} {f : List Float} {s : State} (fit : Fits text s w f
         becomes (steps z m ∙ headed m here (isRules (m .sec)) x)
         (rw er (still-step hs (fit .more) e he isHeader x (ap (λ y. ownBy isRules y (s .section)) (sort-is z)) (ap (λ y. secBy y (s .section)) (sort-is z))))
 
+  -- ---- a line whose first byte tells what it is
+  module _ (b : plainBy (startTrimmed (drop (s .at) (take e text))) ≡ true) where
+    its-sort : sortIn sort.Other ≡ sortOf (drop (s .at) (take e text))
+    its-sort = plain-sort (take e text) (s .at) (startAt (take e text) (s .at)) refl b
+
+    plain-by : Plain (sortOf (bodyAt text (s .at)))
+    plain-by = plain-other {k = sort.Other} its-sort refl
+
+    way-by : {r : Turn} {w′ : List ℕ} {f′ : List Float} → Goes text s w f (λ m l. act inp false other (isRules (m .sec)) m l) r w′ f′ → Goes text s w f (step inp false) r w′ f′
+    way-by go = way-any {k = sort.Other} its-sort refl go
+
+  -- ---- a line that joins the open group
+  pub way-joined : {st : State} → joinedBy (plainBy (startTrimmed (drop (s .at) (take e text)))) (s .section) (s .grouped) ≡ true → st ≡ movedTo s (s .section) (s .counts) e
+      → Goes text s w f (step inp false) (record { state = st; class = 8; closed = 0; reason = 0; piece = 0 }) w f
+  way-joined b es =
+      let j = to-join (plainBy (startTrimmed (drop (s .at) (take e text)))) (s .section) (s .grouped) b in
+      way-by (j .0) (way-joins (plain-by (j .0)) (j .1) (es ∙ joined-open s e (j .2)))
+
   -- ---- a line that is stored at once
   module _ (b : filedBy (plainBy (startTrimmed (drop (s .at) (take e text)))) (s .section) ≡ true) where
     pub told : (plainBy (startTrimmed (drop (s .at) (take e text))) ≡ true) × (isRules (s .section) ≡ false) × (passesOver (s .section) ≡ false)
     told = at-once (plainBy (startTrimmed (drop (s .at) (take e text)))) (s .section) b
 
-    its-sort : sortIn sort.Other ≡ sortOf (drop (s .at) (take e text))
-    its-sort = plain-sort (take e text) (s .at) (startAt (take e text) (s .at)) refl (told .0)
-
     pub plain-told : Plain (sortOf (bodyAt text (s .at)))
-    plain-told = plain-other {k = sort.Other} its-sort refl
+    plain-told = plain-by (told .0)
 
     pub way-told : {r : Turn} {w′ : List ℕ} {f′ : List Float} → Goes text s w f (λ m l. act inp false other (isRules (m .sec)) m l) r w′ f′ → Goes text s w f (step inp false) r w′ f′
-    way-told go = way-any {k = sort.Other} its-sort refl go
+    way-told go = way-by (told .0) go
 
     module _ {w′ : List ℕ} {f′ : List Float} {kept : Kept} {end : ℕ} (z : end ≡ s .at + length (cutOf (drop (s .at) (take e text))))
         (ens : (n : Network) → Holds text n (s .counts) w f → After text (lineStep (s .section) (fieldsAt (take end text) (s .at)) n) kept w f w′ f′) where

@@ -98,3 +98,7 @@ Goes text s w f φ r w′ f′ =
 -- a line is stored at once: it is told to be neither blank nor a header nor a group's start, and the section stores
 abbrev pub filedBy : Bool → Section → Bool
 filedBy plain s = cond (isRules s) false (cond (passesOver s) false plain)
+
+-- a line joins a group that is open: it is told to be neither blank nor a header nor a group's start, and the section is RULES
+abbrev pub joinedBy : Bool → Section → Bool → Bool
+joinedBy plain s grouped = cond grouped (cond (isRules s) plain false) false

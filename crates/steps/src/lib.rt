@@ -12,7 +12,7 @@ ghost use Rattle.scope.specs.Records.{noNetwork, countsOf};
 ghost use Rattle.scope.specs.Lines.{sortOf, inp};
 ghost use Rattle.sections.specs.Storing.{passesOver};
 ghost use Rattle.headers.specs.Own.{sortIn, plainBy};
-ghost use Rattle.steps.specs.Held.{Fits, Plain, Goes, ownLine, movedTo, joinedTo, shutTo, newState, filedBy};
+ghost use Rattle.steps.specs.Held.{Fits, Plain, Goes, ownLine, movedTo, joinedTo, shutTo, newState, filedBy, joinedBy};
 use headers::Sort;
 use scope::Counts;
 use scope::Reason;
@@ -370,6 +370,18 @@ pub fn is_filed(l: &[u8], at: usize, section: Section) -> bool
         return false;
     }
     headers::is_plain(l, at)
+}
+
+// Whether the line of `l` from `at` on is told to join a group that is open: then only the place and the line's number go on.
+pub fn is_joined(l: &[u8], at: usize, section: Section, grouped: bool) -> bool
+    ensures { λ r. ⌜ r ≡ joinedBy (plainBy (startTrimmed (drop at (now (l .entry))))) section grouped ⌝ }
+{
+    if grouped {
+        if headers::in_rules(section) {
+            return headers::is_plain(l, at);
+        }
+    }
+    false
 }
 
 // The next line.
