@@ -1,8 +1,8 @@
 -- The letters of a name as one number, the first the highest: those of a short name are what is left when eight bytes that begin with them are shifted. Assumes nothing.
-use Prim.Native.Nat.{ℕ, zero, suc, _+_, _-_, _*_, _/_, _^_, _≤_, _<_}
+use Prim.Native.Nat.{ℕ, suc, _+_, _-_, _*_, _/_, _^_, _≤_, _<_}
 use native.Mathlib.Omega.{arith}
 use native.Mathlib.Nat.{mul-le-mul-right, pow-le-pow-right}
-use mathlib.Core.Path.{_≡_, refl, sym, ap, ap₂, _∙_}
+use mathlib.Core.Path.{_≡_, refl, sym, ap, _∙_}
 use mathlib.Core.List.{List, [], _∷_, _++_}
 use lib.ListN.{length, take, drop, getD, length-take, length-drop, take-append-drop}
 use lib.Seq.{take-all, take-take, take-suc, getD-drop}
@@ -42,13 +42,14 @@ unfolding packed
 packed-joined k [] b = refl
 packed-joined k (x ∷ a) b = packed-joined (k * 256 + x) a b
 
--- the first n of them
+-- the first n of them, and the rest
+packed-split : (n : ℕ) (l : List ℕ) → packed 0 l ≡ packed 0 (take n l) * 2 ^ (8 * length (drop n l)) + packed 0 (drop n l)
+packed-split n l = ap (packed 0) (sym (take-append-drop n l)) ∙ packed-joined 0 (take n l) (drop n l) ∙ packed-from (packed 0 (take n l)) (drop n l)
+
 packed-shifted : (n : ℕ) (l : List ℕ) → Bytes l → packed 0 l / 2 ^ (8 * (length l - n)) ≡ packed 0 (take n l)
 packed-shifted n l h =
     let b : List ℕ = drop n l in
-    let s : packed 0 l ≡ packed 0 (take n l) * 2 ^ (8 * length b) + packed 0 b =
-    ap (packed 0) (sym (take-append-drop n l)) ∙ packed-joined 0 (take n l) b ∙ packed-from (packed 0 (take n l)) b in
-    rw (s, ← length-drop n l) (high (packed 0 (take n l)) (8 * length b) (packed-lt b (λ i. rw (getD-drop n l i 0) (h (n + i)))))
+    rw (packed-split n l, ← length-drop n l) (high (packed 0 (take n l)) (8 * length b) (packed-lt b (λ i. rw (getD-drop n l i 0) (h (n + i)))))
 
 -- ---- eight bytes of a text
 module _ (text : List ℕ) (at : ℕ) (k : at + 8 ≤ length text) where
@@ -125,7 +126,4 @@ module _ (l : List ℕ) (n : length l ≡ 8) (h : Bytes l) where
     last-fits = rw (e, back) (rw short at (packed-lt (drop 4 l) (λ i. rw (getD-drop 4 l i 0) (h (4 + i)))))
 
     pub eight-packed : (x : ℕ) → x ≡ packed 0 (take 4 l) → x * 0x1_0000_0000 + y ≡ packed 0 l
-    eight-packed x ex =
-        let s : packed 0 l ≡ packed 0 (take 4 l) * 2 ^ (8 * length (drop 4 l)) + packed 0 (drop 4 l) =
-        ap (packed 0) (sym (take-append-drop 4 l)) ∙ packed-joined 0 (take 4 l) (drop 4 l) ∙ packed-from (packed 0 (take 4 l)) (drop 4 l) in
-        rw (ex, e, back) (sym (rw short at s))
+    eight-packed x ex = rw (ex, e, back) (sym (rw short at (packed-split 4 l)))

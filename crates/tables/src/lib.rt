@@ -138,7 +138,7 @@ pub fn clear_numbers(numbers: &mut [f64])
 // ---- names
 
 // The first eight letters as one number.
-pub fn name_key(name: &[u8]) -> u64
+fn name_key(name: &[u8]) -> u64
     ensures { λ r. ⌜ r ≡ keyOf (now (name .entry)) ⌝ }
 {
     let l = letters::cut(name, 0, 8);
@@ -181,7 +181,7 @@ fn far_key(l: &[u8], n: usize) -> u64
 }
 
 // The key of a name where it stands in the text. Of a short name with more text behind it eight bytes are taken at once, and those that are not its own shifted out.
-pub fn key_at(text: &[u8], name: Span) -> u64
+fn key_at(text: &[u8], name: Span) -> u64
     ensures { λ r. ⌜ r ≡ keyOf (part (name .at) (name .end) (now (text .entry))) ⌝ }
 {
     let l = fields::letters_of(text, name);
