@@ -6,6 +6,7 @@ ghost use lib.ListN.{length, take, set, replicate};
 ghost use lib.Dec.{eqb};
 ghost use Rattle.lines.specs.Tables.{swapped, refilled, countIn};
 ghost use Rattle.marks.specs.Counted.{counted};
+ghost use Rattle.marks.specs.Filled.{filled};
 use scope::Survey;
 
 pub fn clear_bytes(bytes: &mut [u8])
@@ -32,6 +33,18 @@ fn refill(classes: &mut [u8], from: usize, to: usize, k: u8)
     let mut i = from;
     while i < to {
         classes[i] = swap(classes[i], k);
+        i += 1;
+    }
+}
+
+// The lines after number `from`, up to number `to`, are of one class.
+pub fn mark_lines(classes: &mut [u8], from: usize, to: usize, class: u8)
+    requires { ⌜ (from ≤ to) × (to ≤ length (now classes)) ⌝ }
+    ensures { λ _. ⌜ now (classes .exit) ≡ filled (now (classes .entry)) from (to - from) class ⌝ }
+{
+    let mut i = from;
+    while i < to {
+        classes[i] = class;
         i += 1;
     }
 }

@@ -4,7 +4,6 @@ ghost use mathlib.Core.Bool.{true, false, cond};
 ghost use Prim.Native.Nat.{_≤_, _<_};
 ghost use lib.ListN.{length, take};
 ghost use lib.Dec.{ltb};
-ghost use Rattle.lines.specs.Reader.{step};
 ghost use Rattle.scope.specs.Answers.{reasonNo};
 ghost use Rattle.scope.specs.Records.{noNetwork, countsOf};
 ghost use Rattle.scope.specs.Tables.{recordWords, roomWords, roomNumbers, tallyWords};
@@ -15,8 +14,6 @@ ghost use Rattle.stored.specs.Back.{Stands};
 use scope::Answer;
 use scope::Counts;
 use scope::Reason;
-use steps::State;
-use tables::Kept;
 
 // The room of the text, and of the words with the counts after the records.
 pub const ROOM_TEXT: usize = 65536;
@@ -36,56 +33,16 @@ fn run(text: &[u8], words: &mut [u64], numbers: &mut [f64]) -> Strict
     requires { ⌜ (length (now text) ≤ 65536) × Holds (now text) noNetwork (countsOf noNetwork) (now words) (now numbers) ⌝ }
     ensures { λ r. ⌜ (r .answer ≡ told (strictOf (now (text .entry)))) × Holds (now (text .entry)) (networkIn (strictOf (now (text .entry)))) (r .counts) (now (words .exit)) (now (numbers .exit)) ⌝ }
 {
-    let mut s = State::new();
-    while s.at < text.len() {
-        let at = s.at;
-        let section = s.section;
-        let stop = scans::line_stop(text, at);
-        let ends = scans::ends_from(text, stop);
-        let e = ends.end;
-        // Most lines are stored at once: the state need not be handed on to be changed.
-        if steps::is_filed(&text[..e], at, section) {
-            let counts = s.counts;
-            let kept = sections::store_line(section, text, at, ends.cut, counts, words, numbers);
-            match kept {
-                Kept::Stored(c) => {
-                    s = s.moved(section, c, e);
-                }
-                Kept::Refused(why) => {
-                    return Strict {
-                        answer: Answer {
-                            number: steps::reason_number(why),
-                            line: s.line + 1,
-                        },
-                        counts,
-                    };
-                }
-            }
-        } else if steps::is_joined(&text[..e], at, section, s.grouped) {
-            // Most of the others join the open group: there too the state stays where it is.
-            let counts = s.counts;
-            s = s.moved(section, counts, e);
-        } else {
-            let k = headers::sort_of(&text[..e], at);
-            let t = steps::take_turn(text, s, e, ends.cut, k, words, numbers);
-            let no = t.reason;
-            s = t.state;
-            if no != 0 {
-                let counts = s.counts;
-                return Strict {
-                    answer: Answer {
-                        number: no,
-                        line: t.piece,
-                    },
-                    counts,
-                };
-            }
-        }
-    }
-    let counts = s.counts;
-    resolving::resolve_pattern_indices(text, counts, words);
+    // Strict reading marks no lines: what is lent for the marks is not used.
+    let mut classes = [0u8; 1];
+    let mut reasons = [0u8; 1];
+    let over = going::go_over(text, false, words, numbers, &mut classes, &mut reasons);
+    let counts = over.counts;
     Strict {
-        answer: Answer { number: 0, line: 0 },
+        answer: Answer {
+            number: over.reason,
+            line: over.piece,
+        },
         counts,
     }
 }

@@ -12,7 +12,6 @@ ghost use Rattle.tables.specs.Holding.{Holds};
 use scope::Counts;
 use scope::Reason;
 use scope::Survey;
-use steps::State;
 
 // What a survey gives beside the tables: the answer, and how many records they hold.
 pub struct Surveyed {
@@ -61,16 +60,9 @@ fn go_over(
         × (now (classes .exit) ≡ marksIn codeOf roomLines (marksOf (now (text .entry))))
         × (now (reasons .exit) ≡ marksIn reasonIn roomLines (marksOf (now (text .entry)))) ⌝ }
 {
-    let mut s = State::new();
-    while s.at < text.len() {
-        let t = steps::step(text, s, words, numbers);
-        marks::mark_class(classes, t.piece, s.line, t.closed, t.class);
-        marks::mark_reason(reasons, t.piece, t.reason);
-        s = t.state;
-    }
-    let counts = s.counts;
-    resolving::resolve_pattern_indices(text, counts, words);
-    let survey = marks::counts_of(classes, s.line);
+    let over = going::go_over(text, true, words, numbers, classes, reasons);
+    let counts = over.counts;
+    let survey = marks::counts_of(classes, over.lines);
     Surveyed { survey, counts }
 }
 
