@@ -156,7 +156,7 @@ pub fn line_end(text: &[u8], at: usize) -> usize
 }
 
 // Where the line from `at` on stops: at its first `;` or line feed, or where the text ends.
-pub fn line_stop(text: &[u8], at: usize) -> usize
+fn line_stop(text: &[u8], at: usize) -> usize
     ensures { λ r. ⌜ r ≡ at + clearLen 59 10 (drop at (now (text .entry))) ⌝ }
 {
     find_either(text, at, 59, 10)
@@ -168,7 +168,7 @@ pub struct Ends {
 }
 
 // Where a line that stops there is cut, at its first `;`, and where it ends, its line feed with it.
-pub fn ends_from(text: &[u8], stop: usize) -> Ends
+fn ends_from(text: &[u8], stop: usize) -> Ends
     ensures { λ r. ⌜ ((at : ℕ) → stop ≡ at + clearLen 59 10 (drop at (now (text .entry)))
         → (r .end ≡ at + lineLen (drop at (now (text .entry)))) × (r .cut ≡ at + length (cutOf (drop at (take (r .end) (now (text .entry))))))) ⌝ }
 {

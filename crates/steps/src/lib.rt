@@ -339,7 +339,7 @@ fn starting(
 }
 
 // The next line, which is of the sort `k`, ends at `e` and is cut at `cut`.
-pub fn take_turn(
+fn take_turn(
     text: &[u8],
     s: State,
     e: usize,
@@ -360,7 +360,7 @@ pub fn take_turn(
 }
 
 // Whether the line of `l` from `at` on is stored at once, in a section.
-pub fn is_filed(l: &[u8], at: usize, section: Section) -> bool
+fn is_filed(l: &[u8], at: usize, section: Section) -> bool
     ensures { λ r. ⌜ r ≡ filedBy (plainBy (startTrimmed (drop at (now (l .entry))))) section ⌝ }
 {
     if headers::in_rules(section) {
