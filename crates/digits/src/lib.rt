@@ -49,12 +49,12 @@ pub fn is_digit(b: u8) -> bool
     }
 }
 
-// What a digit counts.
+// What a digit counts. The byte less 48 is what `is_digit` compares, so that the compiler has it already.
 pub fn digit_value(b: u8) -> u64
     requires { ⌜ (48 ≤ b) × (b ≤ 57) ⌝ }
     ensures { λ r. ⌜ r ≡ b - 48 ⌝ }
 {
-    (b as u64) - 48
+    (b - 48) as u64
 }
 
 // A letter in lower case.
