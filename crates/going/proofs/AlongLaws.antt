@@ -1,5 +1,5 @@
 -- A turn of the loop of both readings, and its end. Assumes nothing.
-use Prim.Native.Nat.{ℕ, _+_, _-_, _≤_, _<_}
+use Prim.Native.Nat.{ℕ, _-_, _≤_, _<_}
 use native.Mathlib.Omega.{arith}
 use mathlib.Core.Path.{_≡_, refl, sym, ap, _∙_}
 use mathlib.Core.Bool.{Bool, true, false, cond}
@@ -20,16 +20,16 @@ use Rattle.steps.specs.declared.Turn.{Turn}
 use Rattle.steps.proofs.StepLaws.{never}
 use Rattle.marks.specs.Filled.{filled}
 use Rattle.plainlines.specs.Onward.{Ready, Onward}
-use Rattle.plainlines.proofs.OnwardLaws.{further, ready-after, after-line, at-after}
+use Rattle.plainlines.proofs.OnwardLaws.{further, ready-after, after-line}
 use Rattle.going.specs.Over.{Unmarked, Done, Overseen}
 use Rattle.going.proofs.GoneLaws as gone
-use Rattle.going.proofs.GoneLaws.{Gone, start-stands}
+use Rattle.going.proofs.GoneLaws.{Gone}
 use Rattle.going.proofs.SweptLaws as swept
 use Rattle.going.proofs.SweptLaws.{Swept}
 
 -- ---- how far the loop has come, a survey where b is true: the classes have room nc, and the reasons nr
 pub record Along (b : Bool) (text : List ℕ) (nc nr : ℕ) (w : List ℕ) (f : List Float) (c r : List ℕ) (s : State) : Type 0 where
-  pub strict : b ≡ false → Gone text w f s
+  pub strict : b ≡ false → Gone text s w f
   pub survey : b ≡ true → Swept text nc nr w f c r s
   pub room : b ≡ true → (nc ≡ roomLines) × (nr ≡ roomLines)
   pub ready : Ready text s w f

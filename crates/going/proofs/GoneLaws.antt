@@ -19,12 +19,12 @@ use Rattle.steps.specs.Held.{Model, Stands, Stepped, Goes, newState}
 use Rattle.steps.specs.declared.State.{State}
 use Rattle.steps.specs.declared.Turn.{Turn}
 use Rattle.steps.proofs.StepLaws.{never}
-use Rattle.plainlines.specs.Onward.{Ready, Onward, none, more}
-use Rattle.plainlines.proofs.OnwardLaws.{further}
+use Rattle.plainlines.specs.Onward.{Onward, none, more}
+use Rattle.plainlines.proofs.OnwardLaws.{same}
 use Rattle.going.specs.Over.{Done}
 
 -- ---- how far the loop has come
-pub record Gone (text w : List ℕ) (f : List Float) (s : State) : Type 0 where
+pub record Gone (text : List ℕ) (s : State) (w : List ℕ) (f : List Float) : Type 0 where
   pub m : Model
   pub stands : Stands text s w f m
   pub going : Going inp false Passed noNetwork text m (s .at) (s .line)
@@ -32,21 +32,15 @@ pub record Gone (text w : List ℕ) (f : List Float) (s : State) : Type 0 where
 pub start-stands : (text w : List ℕ) (f : List Float) (s : State) → s ≡ newState → Holds text noNetwork (countsOf noNetwork) w f → Stands text s w f atStart
 start-stands text w f s e h = rw e (record { sec = refl; none = λ _. refl; group = never; recs = h; line = omega arith; here = omega arith })
 
-pub begin : (text w : List ℕ) (f : List Float) (s : State) → s ≡ newState → Holds text noNetwork (countsOf noNetwork) w f → Gone text w f s
+pub begin : (text w : List ℕ) (f : List Float) (s : State) → s ≡ newState → Holds text noNetwork (countsOf noNetwork) w f → Gone text s w f
 begin text w f s e h = record { m = atStart; stands = start-stands text w f s e h; going = rw e (going-start inp false Passed noNetwork text) }
 
-pub ready : {text w : List ℕ} {f : List Float} {s : State} → length text ≤ 65536 → Gone text w f s → Ready text s w f
-ready h g = record { m = g .m; stands = g .stands; short = h }
-
-module _ {text w : List ℕ} {f : List Float} {s : State} (g : Gone text w f s) where
+module _ {text w : List ℕ} {f : List Float} {s : State} (g : Gone text s w f) where
   module _ {r : Turn} {w′ : List ℕ} {f′ : List Float} (h : s .at < length text) (go : Goes text s w f (step inp false) r w′ f′) where
     stepped : Stepped text s (lineAt text (s .at) (s .line + 1)) (g .m) (step inp false (g .m) (lineAt text (s .at) (s .line + 1))) r w′ f′
     stepped = go (g .m) (g .stands)
 
-    pub onward : s .at < r .state .at
-    onward = further h stepped
-
-    pub turn : r .reason ≡ 0 → Gone text w′ f′ (r .state)
+    pub turn : r .reason ≡ 0 → Gone text (r .state) w′ f′
     turn z =
         let st = stepped in
         record {
@@ -73,10 +67,6 @@ module _ {text w : List ℕ} {f : List Float} {s : State} (g : Gone text w f s) 
       )
 
 -- the loop behind lines that stop nothing
-same-gone : {text : List ℕ} {s t : State} {w w′ : List ℕ} {f f′ : List Float} → t ≡ s → w′ ≡ w → f′ ≡ f → Gone text w f s → Gone text w′ f′ t
-same-gone {text} {s} {t} {w} {w′} {f} {f′} a b c g =
-    subst (λ (x : State). Gone text w′ f′ x) (sym a) (subst (λ (x : List ℕ). Gone text x f′ s) (sym b) (subst (λ (x : List Float). Gone text w x s) (sym c) g))
-
-pub gone-after : {text : List ℕ} {k : ℕ} {s : State} {w : List ℕ} {f : List Float} {t : State} {w′ : List ℕ} {f′ : List Float} → Gone text w f s → Onward text k s w f t w′ f′ → Gone text w′ f′ t
-gone-after g (none a b c) = same-gone a b c g
-gone-after g (more r o h go a b c e) = same-gone e refl refl (turn (gone-after g o) h go c)
+pub gone-after : {text : List ℕ} {k : ℕ} {s : State} {w : List ℕ} {f : List Float} {t : State} {w′ : List ℕ} {f′ : List Float} → Gone text s w f → Onward text k s w f t w′ f′ → Gone text t w′ f′
+gone-after {text} g (none a b c) = same (Gone text) a b c g
+gone-after {text} g (more r o h go a b c e) = same (Gone text) e refl refl (turn (gone-after g o) h go c)

@@ -26,7 +26,7 @@ use Rattle.marks.specs.Counted.{counted}
 use Rattle.marks.specs.Filled.{filled}
 use Rattle.marks.proofs.FilledLaws.{filled-more, filled-none}
 use Rattle.plainlines.specs.Onward.{Onward, none, more}
-use Rattle.plainlines.proofs.OnwardLaws.{further}
+use Rattle.plainlines.proofs.OnwardLaws.{same}
 use Rattle.going.specs.Over.{Overseen}
 use Rattle.going.proofs.GoneLaws.{start-stands}
 
@@ -59,9 +59,6 @@ module _ {text : List ℕ} {nc nr : ℕ} {w : List ℕ} {f : List Float} {c r : 
   stepped : Stepped text s l (q .m) o t w′ f′
   stepped = go (q .m) (q .stands)
 
-  pub onward : s .at < t .state .at
-  onward = further h stepped
-
   pub class-asks : (t .closed ≡ 0 → ⊥) → (0 < t .piece) × (t .piece ≤ s .line)
   class-asks z = loops.class-asks inp false Passed noNetwork text (q .swept) (stepped .tells) z
 
@@ -89,9 +86,8 @@ module _ {text : List ℕ} {nc nr : ℕ} {w : List ℕ} {f : List Float} {c r : 
 
 -- ---- behind lines of class k that stop nothing
 same-swept : {text : List ℕ} {nc nr : ℕ} {w w′ : List ℕ} {f f′ : List Float} {c c′ r : List ℕ} {s t : State} → t ≡ s → w′ ≡ w → f′ ≡ f → c′ ≡ c → Swept text nc nr w f c r s → Swept text nc nr w′ f′ c′ r t
-same-swept {text} {nc} {nr} {w} {w′} {f} {f′} {c} {c′} {r} {s} {t} a b d e q =
-    subst (λ (x : State). Swept text nc nr w′ f′ c′ r x) (sym a)
-    (subst (λ (x : List ℕ). Swept text nc nr x f′ c′ r s) (sym b) (subst (λ (x : List Float). Swept text nc nr w x c′ r s) (sym d) (subst (λ (x : List ℕ). Swept text nc nr w f x r s) (sym e) q)))
+same-swept {text} {nc} {nr} {w} {f = f} {c′ = c′} {r} {s} a b d e q =
+    same (λ (x : State) (y : List ℕ) (z : List Float). Swept text nc nr y z c′ r x) a b d (subst (λ (x : List ℕ). Swept text nc nr w f x r s) (sym e) q)
 
 module _ {text : List ℕ} {nc nr : ℕ} {w : List ℕ} {f : List Float} {c r : List ℕ} {s : State} (q : Swept text nc nr w f c r s) (hc : length text ≤ nc) (hr : length text ≤ nr) where
   pub swept-after : {k : ℕ} {t : State} {w′ : List ℕ} {f′ : List Float} → Onward text k s w f t w′ f′ → (s .line ≤ t .line) × Swept text nc nr w′ f′ (filled c (s .line) (t .line - s .line) k) r t

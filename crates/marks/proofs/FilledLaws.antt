@@ -1,9 +1,9 @@
 -- One line more of the same class. Assumes nothing.
-use Prim.Native.Nat.{ℕ, zero, suc, _+_, _-_, _≤_}
+use Prim.Native.Nat.{ℕ, suc, _+_, _-_, _≤_}
 use native.Mathlib.Omega.{arith}
-use mathlib.Core.Path.{_≡_, refl, sym, ap, _∙_}
+use mathlib.Core.Path.{_≡_, sym, ap, _∙_}
 use mathlib.Core.List.{List}
-use lib.ListN.{length, set, length-set}
+use lib.ListN.{set}
 use Rattle.marks.specs.Filled.{filled}
 
 pub filled-more : (c : List ℕ) (from i k : ℕ) → from ≤ i → set (filled c from (i - from) k) i k ≡ filled c from (i + 1 - from) k
@@ -16,8 +16,3 @@ filled-more c from i k h =
 pub filled-none : (c : List ℕ) (i k : ℕ) → c ≡ filled c i (i - i) k
 unfolding filled
 filled-none c i k = let a : i - i ≡ 0 = omega arith in ap (λ x. filled c i x k) (sym a)
-
-pub filled-long : (c : List ℕ) (from n k : ℕ) → length (filled c from n k) ≡ length c
-unfolding filled
-filled-long c from zero k = refl
-filled-long c from (suc n) k = rw length-set (filled-long c from n k)

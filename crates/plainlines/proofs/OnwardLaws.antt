@@ -23,11 +23,15 @@ use Rattle.tables.specs.declared.Kept.the-variants.{Stored, Refused}
 use Rattle.tables.proofs.AfterLaws.{after-refused}
 use Rattle.headers.specs.Own.{plainBy}
 use Rattle.sections.specs.Storing.{passesOver, lineStep}
-use Rattle.steps.specs.Held.{Model, Stands, Fits, Stepped, Goes, movedTo, filedBy, joinedBy}
+use Rattle.steps.specs.Held.{Model, Fits, Stepped, Goes, movedTo, filedBy, joinedBy}
 use Rattle.steps.specs.declared.State.{State}
 use Rattle.steps.specs.declared.Turn.{Turn}
 use Rattle.steps.proofs.WayLaws.{by-section, way-stored, way-joined}
 use Rattle.plainlines.specs.Onward.{Ready, Onward, none, more}
+
+-- what holds of a state and the tables holds of the same ones
+pub same : (P : State → List ℕ → List Float → Type 0) {s t : State} {w w′ : List ℕ} {f f′ : List Float} → t ≡ s → w′ ≡ w → f′ ≡ f → P s w f → P t w′ f′
+same P {s} {t} {w} {w′} {f} {f′} a b c p = subst (λ (x : State). P x w′ f′) (sym a) (subst (λ (x : List ℕ). P s x f′) (sym b) (subst (λ (x : List Float). P s w x) (sym c) p))
 
 pub fits : {text w : List ℕ} {f : List Float} {s : State} → Ready text s w f → s .at < length text → Fits text s w f
 fits y h = record { m = y .m; stands = y .stands; short = y .short; more = h }
@@ -83,7 +87,7 @@ module _ {text : List ℕ} {s₀ : State} {w₀ : List ℕ} {f₀ : List Float} 
     unstored {n} q =
         let m : Network = g .ready .m .recs in
         let r = after-refused text w w′ f f′ (lineStep x (fieldsAt (take end text) (s .at)) m) kept n (ens m (g .ready .stands .recs)) q in
-        subst (λ (y : List Float). Onward text 4 s₀ w₀ f₀ s w′ y) (sym (r .2)) (subst (λ (y : List ℕ). Onward text 4 s₀ w₀ f₀ s y f) (sym (r .1)) (g .onward))
+        same (Onward text 4 s₀ w₀ f₀) refl (r .1) (r .2) (g .onward)
 
 -- ---- a line that joins the open group, whatever the tables hold
 pub record Joined (text : List ℕ) (s₀ s : State) : Type 0 where
@@ -108,13 +112,9 @@ joined {text} {s₀} {s} j h {x} ex {e} he b {t} es = record {
 }
 
 -- ---- after lines of class k
-same-ready : {text : List ℕ} {s t : State} {w w′ : List ℕ} {f f′ : List Float} → t ≡ s → w′ ≡ w → f′ ≡ f → Ready text s w f → Ready text t w′ f′
-same-ready {text} {s} {t} {w} {w′} {f} {f′} a b c y =
-    subst (λ (x : State). Ready text x w′ f′) (sym a) (subst (λ (x : List ℕ). Ready text s x f′) (sym b) (subst (λ (x : List Float). Ready text s w x) (sym c) y))
-
 pub ready-after : {text : List ℕ} {k : ℕ} {s : State} {w : List ℕ} {f : List Float} {t : State} {w′ : List ℕ} {f′ : List Float} → Ready text s w f → Onward text k s w f t w′ f′ → Ready text t w′ f′
-ready-after y (none a b c) = same-ready a b c y
-ready-after y (more r o h go a b c e) = same-ready e refl refl (after-line (ready-after y o) go)
+ready-after {text} y (none a b c) = same (Ready text) a b c y
+ready-after {text} y (more r o h go a b c e) = same (Ready text) e refl refl (after-line (ready-after y o) go)
 
 pub at-after : {text : List ℕ} {k : ℕ} {s : State} {w : List ℕ} {f : List Float} {t : State} {w′ : List ℕ} {f′ : List Float} → Ready text s w f → Onward text k s w f t w′ f′ → s .at ≤ t .at
 at-after y (none a b c) = omega (arith, ap (λ (x : State). x .at) a)

@@ -1,5 +1,5 @@
 -- `marks::mark_lines` meets its contract: the lines before number i are marked. Assumes nothing.
-use Prim.Native.Nat.{_+_, _-_, _≤_}
+use Prim.Native.Nat.{_-_, _≤_}
 use native.Mathlib.Omega.{arith}
 use denote.Ref.{now}
 use mathlib.Core.Path.{_≡_, refl, ap, _∙_}
