@@ -180,7 +180,7 @@ next-unique l at Nothing Nothing n m = refl
 
 -- ---- where fields stand
 -- a name stands in the text, not before the place `from`, and is not empty
-pub record Stands (text : List ℕ) (from : ℕ) (n : Name) : Type 0 where
+pub record StandsFrom (text : List ℕ) (from : ℕ) (n : Name) : Type 0 where
   pub after : from ≤ n .at
   pub some : 0 < length (n .letters)
   pub inside : n .at + length (n .letters) ≤ length text
@@ -189,7 +189,7 @@ pub record Stands (text : List ℕ) (from : ℕ) (n : Name) : Type 0 where
 -- names stand in the text one after another, with a byte at least between two
 abbrev pub Ordered : List ℕ → ℕ → List Name → Type 0
 Ordered text from [] = Unit {0}
-Ordered text from (n ∷ ns) = Stands text from n × Ordered text (suc (n .at + length (n .letters))) ns
+Ordered text from (n ∷ ns) = StandsFrom text from n × Ordered text (suc (n .at + length (n .letters))) ns
 
 sooner : (text : List ℕ) (from : ℕ) (ns : List Name) → Ordered text (suc from) ns → Ordered text from ns
 sooner text from [] o = tt
@@ -200,11 +200,11 @@ module _ (text : List ℕ) where
   shorter at b bs e = rw (← add-one at, ← drop-drop 1 at text, e)
 
   -- a byte alone, and a byte before a field that stands next to it
-  alone : (at b : ℕ) (bs : List ℕ) → drop at text ≡ b ∷ bs → Stands text at (record { at = at; letters = b ∷ [] })
+  alone : (at b : ℕ) (bs : List ℕ) → drop at text ≡ b ∷ bs → StandsFrom text at (record { at = at; letters = b ∷ [] })
   alone at b bs e = record { after = omega arith; some = omega arith; inside = omega (arith, ap length e, length-drop at text); there = ap (take 1) e }
 
-  joins : (at b : ℕ) (bs ls : List ℕ) → drop at text ≡ b ∷ bs → Stands text (suc at) (record { at = suc at; letters = ls })
-      → Stands text at (record { at = at; letters = b ∷ ls })
+  joins : (at b : ℕ) (bs ls : List ℕ) → drop at text ≡ b ∷ bs → StandsFrom text (suc at) (record { at = suc at; letters = ls })
+      → StandsFrom text at (record { at = at; letters = b ∷ ls })
   joins at b bs ls e s = record {
     after = omega arith;
     some = omega arith;

@@ -16,7 +16,7 @@ use Rattle.scope.specs.declared.Reason.{Reason}
 use Rattle.scope.specs.declared.Found.{Found}
 use Rattle.scope.specs.declared.Found.the-variants.{At, Nowhere}
 use Rattle.scope.specs.Records.{lookupFrom, lookup}
-use Rattle.scope.specs.Values.{Read, good, bad, onRead, Took, took, refused, onTook, onFound, nameFrom, optionalFrom, asNumber, numberFrom, numberOr, asSwallowed, swallowedFrom, flagFrom}
+use Rattle.scope.specs.Values.{Read, good, bad, onRead, Took, took, refused, onTook, onFound, nameFrom, optionalFrom, asNumber, numberFrom, numberOr, asSwallowed, swallowedFrom, flagFrom, PairFields, pairOf}
 use Rattle.scope.specs.Spelling.{wordTrue, wordFalse}
 use Rattle.scope.specs.Bare.{forget, forgetMaybe}
 
@@ -101,6 +101,16 @@ swallowed d (f ∷ fs) = as-swallowed d (numberOf (f .letters)) fs
 pub flag-from : (fs : List Name) → TookLike itself (flagFrom fs) (flagFrom (map forget fs))
 flag-from [] = tooks
 flag-from (f ∷ fs) = took-if (same (f .letters) wordTrue) tooks (took-if (same (f .letters) wordFalse) tooks refuseds)
+
+abbrev pub forgetPair : PairFields → PairFields
+forgetPair p = record { id = forget (p .id); x = p .x; y = p .y }
+
+pub pair-of : (fs : List Name) → ReadLike forgetPair (pairOf fs) (pairOf (map forget fs))
+unfolding pairOf
+pair-of fs =
+    on-took _ (name fs) (λ id fs.
+    on-took _ (number-from fs) (λ x fs.
+    on-took _ (number-from fs) (λ y fs. goods refl)))
 
 -- ---- looking a name up, by its letters alone
 pub lookup-forget : (i : ℕ) (ns : List Name) (w : List ℕ) → lookupFrom i ns w ≡ lookupFrom i (map forget ns) w

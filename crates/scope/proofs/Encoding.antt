@@ -22,13 +22,15 @@ use Rattle.scope.specs.declared.NodeAttribute.the-variants as node
 use Rattle.scope.specs.declared.TankAttribute.the-variants as tankHas
 use Rattle.scope.specs.declared.LinkAttribute.the-variants as link
 use Rattle.scope.specs.declared.Comparison.{Comparison}
-use Rattle.scope.specs.declared.Comparison.the-variants.{Equal, Differs, Above, Below, AtLeast, AtMost}
+use Rattle.scope.specs.declared.Comparison.the-variants.{Equal, NotEqual, Above, Below, AtLeast, AtMost}
 use Rattle.scope.specs.declared.Operator.{Operator}
 use Rattle.scope.specs.declared.Operator.the-variants.{And, Or}
 use Rattle.scope.specs.declared.Value.{Value}
 use Rattle.scope.specs.declared.Value.the-variants.{Number, Status}
 use Rattle.scope.specs.Records.{Network, Node, NodeKind, junction, reservoir, tank, Place, Link, LinkKind, pipe, pump, valve, Point, Multiplier, Demand, Rule, Clause, condition, action, zeroF, countsOf}
 use Rattle.scope.specs.Tables.{flat, region, blocks, idWords, nameWords, flag, indexNo, countWords, pipeStatusNo, statusNo, typeNo, targetNo, comparisonNo, operatorNo, valueNo, valueNumber, kindWords, kindNumbers, placed, placeNumbers, nodeWords, nodeNumbers, linkKindWords, linkWords, linkNumbersOf, linkNumbers, pointWords, pointNumbers, multiplierWords, multiplierNumbers, demandWords, demandNumbers, ruleWords, clauseWords, clauseNumbers, wordBlocks, numberBlocks, tallyWords, wordsOf, numbersOf}
+use Rattle.scope.specs.Layout.{clauseNumbersLong, clauseNumbersWidth, clausesWidth, clausesLong, curvesLong, demandNumbersLong, demandNumbersWidth, demandsWidth, demandsLong, idWidth, linkNumbersLong, linkNumbersWidth, linksWidth, linksLong, multiplierNumbersLong, multiplierNumbersWidth, multipliersWidth, multipliersLong, nodeNumbersLong, nodeNumbersWidth, nodesWidth, nodesLong, patternsLong, pointNumbersLong, pointNumbersWidth, pointsWidth, pointsLong, rulesWidth, rulesLong, timesWidth, timesLong, curvesWidth, patternsWidth}
+use Rattle.scope.proofs.Widths.{name-long, count-long, kind-long, kind-numbers-long, node-long, node-numbers-long, link-long, link-numbers-long, demand-long, rule-long, clause-long, clause-numbers-long}
 use Rattle.scope.specs.Written.{Sits, SitsOr, NodeKindWritten, NodeWritten, LinkKindWritten, LinkWritten, ClauseWritten, Written}
 
 -- ---- lists
@@ -156,11 +158,11 @@ comparison-equal : (a b : Comparison) → comparisonNo a ≡ comparisonNo b → 
 comparison-equal = by-place comparisonNo xs Equal at
   where
     xs : List Comparison
-    xs = Equal ∷ Equal ∷ Differs ∷ Above ∷ Below ∷ AtLeast ∷ AtMost ∷ []
+    xs = Equal ∷ Equal ∷ NotEqual ∷ Above ∷ Below ∷ AtLeast ∷ AtMost ∷ []
 
     at : (c : Comparison) → getD xs (comparisonNo c) Equal ≡ c
     at Equal = refl
-    at Differs = refl
+    at NotEqual = refl
     at Above = refl
     at Below = refl
     at AtLeast = refl
@@ -174,13 +176,13 @@ target-equal = by-place targetNo xs (target.System system.Demand) at
         target.System system.Demand
         ∷ target.System system.Demand
         ∷ target.System system.Time
-        ∷ target.System system.ClockTime
+        ∷ target.System system.Clocktime
         ∷ target.Node node.Demand
         ∷ target.Node node.Head
         ∷ target.Node node.Pressure
         ∷ target.Tank tankHas.Level
-        ∷ target.Tank tankHas.FillTime
-        ∷ target.Tank tankHas.DrainTime
+        ∷ target.Tank tankHas.Filltime
+        ∷ target.Tank tankHas.Draintime
         ∷ target.Link link.Flow
         ∷ target.Link link.Status
         ∷ target.Link link.Setting
@@ -189,13 +191,13 @@ target-equal = by-place targetNo xs (target.System system.Demand) at
     at : (t : Target) → getD xs (targetNo t) (target.System system.Demand) ≡ t
     at (target.System system.Demand) = refl
     at (target.System system.Time) = refl
-    at (target.System system.ClockTime) = refl
+    at (target.System system.Clocktime) = refl
     at (target.Node node.Demand) = refl
     at (target.Node node.Head) = refl
     at (target.Node node.Pressure) = refl
     at (target.Tank tankHas.Level) = refl
-    at (target.Tank tankHas.FillTime) = refl
-    at (target.Tank tankHas.DrainTime) = refl
+    at (target.Tank tankHas.Filltime) = refl
+    at (target.Tank tankHas.Draintime) = refl
     at (target.Link link.Flow) = refl
     at (target.Link link.Status) = refl
     at (target.Link link.Setting) = refl
@@ -211,10 +213,6 @@ count-equal none none e = refl
 count-equal none (some n) e = absurd (let z : _≡_ {A = ℕ} 0 1 = nth 0 e in omega arith)
 count-equal (some n) none e = absurd (let z : _≡_ {A = ℕ} 1 0 = nth 0 e in omega arith)
 count-equal (some n) (some k) e = ap some (nth 1 e)
-
-count-long : (n : Option ℕ) → length (countWords n) ≡ 2
-count-long none = refl
-count-long (some n) = refl
 
 status-some : (s : LinkStatus) → statusNo s ≡ 0 → ⊥
 status-some Open e = omega arith
@@ -243,10 +241,6 @@ module _ (text : List ℕ) where
   maybe-equal (some n) none s t e = absurd (let z : length (n .letters) ≡ 0 = nth 1 e in omega (arith, s .some))
   maybe-equal (some n) (some k) s t e = ap some (name-equal n k s t (nth 0 e) (nth 1 e))
 
-name-long : (n : Option Name) → length (nameWords n) ≡ 2
-name-long none = refl
-name-long (some n) = refl
-
 -- a name that may be missing, before other words
 name-split : (a b : Option Name) {x y : List ℕ} → nameWords a ++ x ≡ nameWords b ++ y → (nameWords a ≡ nameWords b) × (x ≡ y)
 name-split a b e = append-split (nameWords a) (nameWords b) (name-long a ∙ sym (name-long b)) e
@@ -257,33 +251,6 @@ place-equal none none e f = refl
 place-equal none (some q) e f = absurd (omega arith)
 place-equal (some p) none e f = absurd (omega arith)
 place-equal (some p) (some q) e f = λ i. some (record { x = nthF 0 f i; y = nthF 1 f i })
-
-name-and : (n : Option Name) (x : ℕ) → length (nameWords n ++ (x ∷ [])) ≡ 3
-name-and none x = refl
-name-and (some n) x = refl
-
-kind-long : (k : NodeKind) → length (kindWords k) ≡ 4
-kind-long (junction j) = refl
-kind-long (reservoir r) = ap suc (name-and (r .pattern) (indexNo (r .index)))
-kind-long (tank t) = ap suc (name-and (t .curve) (flag (t .overflow)))
-
-kind-numbers-long : (k : NodeKind) → length (kindNumbers k) ≡ 6
-kind-numbers-long (junction j) = refl
-kind-numbers-long (reservoir r) = refl
-kind-numbers-long (tank t) = refl
-
-place-long : (p : Option Place) → length (placeNumbers p) ≡ 2
-place-long none = refl
-place-long (some p) = refl
-
-node-long : (n : Node) → length (nodeWords n) ≡ 8
-node-long n =
-    let h : length (kindWords (n .kind) ++ (placed (n .place) ∷ [])) ≡ 5 = omega (arith, length-append (kindWords (n .kind)) (placed (n .place) ∷ []), kind-long (n .kind)) in
-    ap (λ k. suc (suc (suc k))) h
-
-node-numbers-long : (n : Node) → length (nodeNumbers n) ≡ 8
-node-numbers-long n =
-    omega (arith, length-append (kindNumbers (n .kind)) (placeNumbers (n .place)), kind-numbers-long (n .kind), place-long (n .place))
 
 differ : {X : Type 0} (a b : ℕ) {x y : List ℕ} → a ∷ x ≡ b ∷ y → (a ≡ b → ⊥) → X
 differ a b e n = absurd (n (nth 0 e))
@@ -330,19 +297,6 @@ module _ (text : List ℕ) where
       λ i. record { id = x i; kind = y i; place = z i }
 
 -- ---- links
-link-kind-long : (k : LinkKind) → length (linkKindWords k) ≡ 4
-link-kind-long (pipe p) = refl
-link-kind-long (pump p) = ap (λ n. suc (suc n)) (name-long (p .head))
-link-kind-long (valve v) = ap (λ n. suc (suc n)) (name-long (v .curve))
-
-link-long : (l : Link) → length (linkWords l) ≡ 9
-link-long l = ap (λ n. suc (suc (suc (suc (suc n))))) (link-kind-long (l .kind))
-
-link-numbers-long : (k : LinkKind) → length (linkNumbersOf k) ≡ 4
-link-numbers-long (pipe p) = refl
-link-numbers-long (pump p) = refl
-link-numbers-long (valve v) = refl
-
 module _ (text : List ℕ) where
   link-kind-equal : (k l : LinkKind) → LinkKindWritten text k → LinkKindWritten text l → linkKindWords k ≡ linkKindWords l → linkNumbersOf k ≡ linkNumbersOf l → k ≡ l
   link-kind-equal (pipe a) (pipe b) s t w f =
@@ -375,9 +329,6 @@ point-equal p q s t w f = λ i. record { curve = nth 0 w i; x = nthF 0 f i; y = 
 multiplier-equal : (p q : Multiplier) → Unit {0} → Unit {0} → multiplierWords p ≡ multiplierWords q → multiplierNumbers p ≡ multiplierNumbers q → p ≡ q
 multiplier-equal p q s t w f = λ i. record { pattern = nth 0 w i; value = nthF 0 f i }
 
-demand-long : (d : Demand) → length (demandWords d) ≡ 5
-demand-long d = ap (λ n. suc (suc n)) (name-and (d .pattern) (indexNo (d .index)))
-
 demand-equal : (text : List ℕ) (d e : Demand) → SitsOr text (d .pattern) → SitsOr text (e .pattern) → demandWords d ≡ demandWords e → demandNumbers d ≡ demandNumbers e → d ≡ e
 demand-equal text d e s t w f =
     let (u, v) = name-split (d .pattern) (e .pattern) (ap (drop 2) w) in
@@ -387,22 +338,11 @@ demand-equal text d e s t w f =
     λ i. record { node = nth 0 w i; own = o i; base = nthF 0 f i; pattern = p i; index = x i }
 
 -- ---- rules
-rule-long : (r : Rule) → length (ruleWords r) ≡ 7
-rule-long r = ap (λ n. suc (suc (suc (suc (suc n))))) (count-long (r .priority))
-
 rule-equal : (text : List ℕ) (r q : Rule) → Sits text (r .id) → Sits text (q .id) → ruleWords r ≡ ruleWords q → r ≡ q
 rule-equal text r q s t w =
     let x = id-equal text (r .id) (q .id) s t (append-split (idWords (r .id)) (idWords (q .id)) refl w .0) in
     let p = count-equal (r .priority) (q .priority) (ap (drop 5) w) in
     λ i. record { id = x i; priority = p i; first = nth 3 w i; count = nth 4 w i }
-
-clause-long : (c : Clause) → length (clauseWords c) ≡ 7
-clause-long (condition c) = ap (λ n. suc (suc (suc (suc (suc n))))) (name-long (c .name))
-clause-long (action a) = refl
-
-clause-number-long : (c : Clause) → length (clauseNumbers c) ≡ 1
-clause-number-long (condition c) = refl
-clause-number-long (action a) = refl
 
 clause-equal : (text : List ℕ) (c d : Clause) → ClauseWritten text c → ClauseWritten text d → clauseWords c ≡ clauseWords d → clauseNumbers c ≡ clauseNumbers d → c ≡ d
 clause-equal text (condition a) (condition b) s t w f =
@@ -432,34 +372,34 @@ pub encoding : (text : List ℕ) (m q : Network) → Written text m → Written 
 unfolding wordsOf numbersOf wordBlocks numberBlocks flat
 encoding text m q s t ew ef =
     let (w, c) = append-last (blocks (wordBlocks m)) (blocks (wordBlocks q)) (tallyWords (countsOf m)) (tallyWords (countsOf q)) refl ew in
-    let (wNodes, w) = region-split nodeWords 8 node-long 0 2048 (m .nodes) (q .nodes) (nth 0 c) w in
-    let (wLinks, w) = region-split linkWords 9 link-long 0 2304 (m .links) (q .links) (nth 1 c) w in
-    let (wCurves, w) = region-split idWords 3 (λ n. refl) 0 192 (m .curves) (q .curves) (nth 2 c) w in
-    let (wPoints, w) = region-split pointWords 1 (λ p. refl) 0 1024 (m .points) (q .points) (nth 3 c) w in
-    let (wPatterns, w) = region-split idWords 3 (λ n. refl) 0 192 (m .patterns) (q .patterns) (nth 4 c) w in
-    let (wMultipliers, w) = region-split multiplierWords 1 (λ p. refl) 0 2048 (m .multipliers) (q .multipliers) (nth 5 c) w in
-    let (wDemands, w) = region-split demandWords 5 demand-long 0 2560 (m .demands) (q .demands) (nth 6 c) w in
-    let (wTimes, w) = region-split countWords 2 count-long 0 12 (m .times) (q .times) (s .times ∙ sym (t .times)) w in
-    let (wRules, w) = region-split ruleWords 7 rule-long 0 448 (m .rules) (q .rules) (nth 7 c) w in
-    let (wClauses, w) = region-split clauseWords 7 clause-long 0 3584 (m .clauses) (q .clauses) (nth 8 c) w in
-    let (fNodes, f) = region-split nodeNumbers 8 node-numbers-long zeroF 2048 (m .nodes) (q .nodes) (nth 0 c) ef in
-    let (fLinks, f) = region-split linkNumbers 4 (λ l. link-numbers-long (l .kind)) zeroF 1024 (m .links) (q .links) (nth 1 c) f in
-    let (fPoints, f) = region-split pointNumbers 2 (λ p. refl) zeroF 2048 (m .points) (q .points) (nth 3 c) f in
-    let (fMultipliers, f) = region-split multiplierNumbers 1 (λ p. refl) zeroF 2048 (m .multipliers) (q .multipliers) (nth 5 c) f in
-    let (fDemands, f) = region-split demandNumbers 1 (λ d. refl) zeroF 512 (m .demands) (q .demands) (nth 6 c) f in
-    let (fClauses, f) = region-split clauseNumbers 1 clause-number-long zeroF 512 (m .clauses) (q .clauses) (nth 8 c) f in
-    let nodes = records-equal (NodeWritten text) nodeWords nodeNumbers 8 8 node-long node-numbers-long (node-equal text) (m .nodes) (q .nodes) (s .nodes) (t .nodes) (nth 0 c) wNodes fNodes in
-    let links = records-equal (LinkWritten text) linkWords linkNumbers 9 4 link-long (λ l. link-numbers-long (l .kind)) (link-equal text) (m .links) (q .links) (s .links) (t .links) (nth 1 c) wLinks fLinks in
-    let names = records-equal (Sits text) idWords noNumbers 3 0 (λ n. refl) (λ n. refl) (λ a b x y e g. id-equal text a b x y e) in
+    let (wNodes, w) = region-split nodeWords nodesWidth node-long 0 nodesLong (m .nodes) (q .nodes) (nth 0 c) w in
+    let (wLinks, w) = region-split linkWords linksWidth link-long 0 linksLong (m .links) (q .links) (nth 1 c) w in
+    let (wCurves, w) = region-split idWords curvesWidth (λ n. refl) 0 curvesLong (m .curves) (q .curves) (nth 2 c) w in
+    let (wPoints, w) = region-split pointWords pointsWidth (λ p. refl) 0 pointsLong (m .points) (q .points) (nth 3 c) w in
+    let (wPatterns, w) = region-split idWords patternsWidth (λ n. refl) 0 patternsLong (m .patterns) (q .patterns) (nth 4 c) w in
+    let (wMultipliers, w) = region-split multiplierWords multipliersWidth (λ p. refl) 0 multipliersLong (m .multipliers) (q .multipliers) (nth 5 c) w in
+    let (wDemands, w) = region-split demandWords demandsWidth demand-long 0 demandsLong (m .demands) (q .demands) (nth 6 c) w in
+    let (wTimes, w) = region-split countWords timesWidth count-long 0 timesLong (m .times) (q .times) (s .times ∙ sym (t .times)) w in
+    let (wRules, w) = region-split ruleWords rulesWidth rule-long 0 rulesLong (m .rules) (q .rules) (nth 7 c) w in
+    let (wClauses, w) = region-split clauseWords clausesWidth clause-long 0 clausesLong (m .clauses) (q .clauses) (nth 8 c) w in
+    let (fNodes, f) = region-split nodeNumbers nodeNumbersWidth node-numbers-long zeroF nodeNumbersLong (m .nodes) (q .nodes) (nth 0 c) ef in
+    let (fLinks, f) = region-split linkNumbers linkNumbersWidth link-numbers-long zeroF linkNumbersLong (m .links) (q .links) (nth 1 c) f in
+    let (fPoints, f) = region-split pointNumbers pointNumbersWidth (λ p. refl) zeroF pointNumbersLong (m .points) (q .points) (nth 3 c) f in
+    let (fMultipliers, f) = region-split multiplierNumbers multiplierNumbersWidth (λ p. refl) zeroF multiplierNumbersLong (m .multipliers) (q .multipliers) (nth 5 c) f in
+    let (fDemands, f) = region-split demandNumbers demandNumbersWidth (λ d. refl) zeroF demandNumbersLong (m .demands) (q .demands) (nth 6 c) f in
+    let (fClauses, f) = region-split clauseNumbers clauseNumbersWidth clause-numbers-long zeroF clauseNumbersLong (m .clauses) (q .clauses) (nth 8 c) f in
+    let nodes = records-equal (NodeWritten text) nodeWords nodeNumbers nodesWidth nodeNumbersWidth node-long node-numbers-long (node-equal text) (m .nodes) (q .nodes) (s .nodes) (t .nodes) (nth 0 c) wNodes fNodes in
+    let links = records-equal (LinkWritten text) linkWords linkNumbers linksWidth linkNumbersWidth link-long link-numbers-long (link-equal text) (m .links) (q .links) (s .links) (t .links) (nth 1 c) wLinks fLinks in
+    let names = records-equal (Sits text) idWords noNumbers idWidth 0 (λ n. refl) (λ n. refl) (λ a b x y e g. id-equal text a b x y e) in
     let curves = names (m .curves) (q .curves) (s .curves) (t .curves) (nth 2 c) wCurves (flat-none (m .curves) (q .curves) (nth 2 c)) in
-    let points = records-equal (λ p. Unit {0}) pointWords pointNumbers 1 2 (λ p. refl) (λ p. refl) point-equal (m .points) (q .points) (each-any (m .points)) (each-any (q .points)) (nth 3 c) wPoints fPoints in
+    let points = records-equal (λ p. Unit {0}) pointWords pointNumbers pointsWidth pointNumbersWidth (λ p. refl) (λ p. refl) point-equal (m .points) (q .points) (each-any (m .points)) (each-any (q .points)) (nth 3 c) wPoints fPoints in
     let patterns = names (m .patterns) (q .patterns) (s .patterns) (t .patterns) (nth 4 c) wPatterns (flat-none (m .patterns) (q .patterns) (nth 4 c)) in
-    let multipliers = records-equal (λ p. Unit {0}) multiplierWords multiplierNumbers 1 1 (λ p. refl) (λ p. refl) multiplier-equal (m .multipliers) (q .multipliers) (each-any (m .multipliers)) (each-any (q .multipliers)) (nth 5 c) wMultipliers fMultipliers in
-    let demands = records-equal (λ (d : Demand). SitsOr text (d .pattern)) demandWords demandNumbers 5 1 demand-long (λ d. refl) (demand-equal text) (m .demands) (q .demands) (s .demands) (t .demands) (nth 6 c) wDemands fDemands in
+    let multipliers = records-equal (λ p. Unit {0}) multiplierWords multiplierNumbers multipliersWidth multiplierNumbersWidth (λ p. refl) (λ p. refl) multiplier-equal (m .multipliers) (q .multipliers) (each-any (m .multipliers)) (each-any (q .multipliers)) (nth 5 c) wMultipliers fMultipliers in
+    let demands = records-equal (λ (d : Demand). SitsOr text (d .pattern)) demandWords demandNumbers demandsWidth demandNumbersWidth demand-long (λ d. refl) (demand-equal text) (m .demands) (q .demands) (s .demands) (t .demands) (nth 6 c) wDemands fDemands in
     let six = s .times ∙ sym (t .times) in
-    let times = records-equal (λ n. Unit {0}) countWords noNumbers 2 0 count-long (λ n. refl) (λ a b x y e g. count-equal a b e) (m .times) (q .times) (each-any (m .times)) (each-any (q .times)) six wTimes (flat-none (m .times) (q .times) six) in
-    let rules = records-equal (λ (r : Rule). Sits text (r .id)) ruleWords noNumbers 7 0 rule-long (λ r. refl) (λ a b x y e g. rule-equal text a b x y e) (m .rules) (q .rules) (s .rules) (t .rules) (nth 7 c) wRules (flat-none (m .rules) (q .rules) (nth 7 c)) in
-    let clauses = records-equal (ClauseWritten text) clauseWords clauseNumbers 7 1 clause-long clause-number-long (clause-equal text) (m .clauses) (q .clauses) (s .clauses) (t .clauses) (nth 8 c) wClauses fClauses in
+    let times = records-equal (λ n. Unit {0}) countWords noNumbers timesWidth 0 count-long (λ n. refl) (λ a b x y e g. count-equal a b e) (m .times) (q .times) (each-any (m .times)) (each-any (q .times)) six wTimes (flat-none (m .times) (q .times) six) in
+    let rules = records-equal (λ (r : Rule). Sits text (r .id)) ruleWords noNumbers rulesWidth 0 rule-long (λ r. refl) (λ a b x y e g. rule-equal text a b x y e) (m .rules) (q .rules) (s .rules) (t .rules) (nth 7 c) wRules (flat-none (m .rules) (q .rules) (nth 7 c)) in
+    let clauses = records-equal (ClauseWritten text) clauseWords clauseNumbers clausesWidth clauseNumbersWidth clause-long clause-numbers-long (clause-equal text) (m .clauses) (q .clauses) (s .clauses) (t .clauses) (nth 8 c) wClauses fClauses in
     λ i. record {
       nodes = nodes i;
       links = links i;

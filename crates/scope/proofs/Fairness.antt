@@ -14,7 +14,7 @@ use Rattle.lines.proofs.Readings.{stopped-at}
 use Rattle.scope.specs.declared.Section.{Section}
 use Rattle.scope.specs.declared.Section.the-variants.{Junctions, Reservoirs, Tanks, Pipes, Pumps, Valves, Curves, Patterns, Demands, Emitters, Coordinates, Times, Rules, Passed}
 use Rattle.scope.specs.declared.Reason.{Reason}
-use Rattle.scope.specs.declared.Reason.the-variants.{Missing, Malformed, Used, NotFound, WrongKind, Falling, Unknown, NoCondition, NoAction, NoId, TooLong, HighByte, Beyond, Full, SmallTable}
+use Rattle.scope.specs.declared.Reason.the-variants.{Missing, Malformed, Used, NotFound, WrongKind, XFalls, UnknownWord, NoCondition, NoAction, NoId, TooLong, HighByte, BeyondReach, NoRoom, SmallTable}
 use Rattle.scope.specs.Answers.{reasonNo}
 use Rattle.scope.specs.Records.{Network}
 use Rattle.scope.specs.Values.{Read, good, bad}
@@ -33,15 +33,15 @@ reason-some Malformed e = omega arith
 reason-some Used e = omega arith
 reason-some NotFound e = omega arith
 reason-some WrongKind e = omega arith
-reason-some Falling e = omega arith
-reason-some Unknown e = omega arith
+reason-some XFalls e = omega arith
+reason-some UnknownWord e = omega arith
 reason-some NoCondition e = omega arith
 reason-some NoAction e = omega arith
 reason-some NoId e = omega arith
 reason-some TooLong e = omega arith
 reason-some HighByte e = omega arith
-reason-some Beyond e = omega arith
-reason-some Full e = omega arith
+reason-some BeyondReach e = omega arith
+reason-some NoRoom e = omega arith
 reason-some SmallTable e = omega arith
 
 abbrev numberIn : L.Verdict Network → ℕ

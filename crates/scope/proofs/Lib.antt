@@ -15,4 +15,5 @@ pub mod Struck
 pub mod WrittenLaws
 pub mod Kept
 pub mod Readings
+pub mod Widths
 pub mod Encoding

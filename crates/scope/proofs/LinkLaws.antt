@@ -17,7 +17,7 @@ use Rattle.scope.specs.Spelling.{wordSpeed, wordHead, wordPower}
 use Rattle.scope.specs.Sections.{roomLinks}
 use Rattle.scope.specs.Records.{Network, LinkKind, pipe, pump, valve, Pump, zeroF, withLinks, linkIds, lookup}
 use Rattle.scope.specs.Values.{Took, asSwallowed}
-use Rattle.scope.specs.Links.{Ends, endsOf, addLink, LinkFields, linkFields, storeLink, statusIn, pipeOf, pipeStep, oneF, noPump, withSpeed, withPower, withPair, pumpFrom, pumpStep, typeOf, Setting, settingTook, curveTook, settingFrom, overriding, valveOf, valveStep}
+use Rattle.scope.specs.Links.{Ends, newLink, endsOf, addLink, LinkFields, linkFields, storeLink, statusIn, pipeOf, pipeStep, oneF, noPump, withSpeed, withPower, withPair, pumpFrom, pumpStep, typeOf, Setting, settingTook, curveTook, settingFrom, overriding, valveOf, valveStep}
 use Rattle.scope.specs.Bare.{forget, forgetMaybe, forgetLink, forgetLinkKind, bare}
 use Rattle.scope.proofs.Carry.{ReadLike, goods, bads, TookLike, tooks, refuseds, itself, same-read, on-took, on-read, on-found, on-cond, on-if, name, optional, number-from, swallowed, lookup-ids}
 use Rattle.scope.proofs.NodeLaws.{node-found}
@@ -38,7 +38,7 @@ unfolding addLink
 add-link id e k m =
     on-found _ (link-found m (id .letters)) (λ i. bads)
     (on-cond _ (ap (λ a. ltb a roomLinks) (links-long m))
-    (goods (ap (λ x. withLinks x (bare m)) (map-append forgetLink (m .links) (record { id = id; start = e .start; end = e .end; kind = k } ∷ [])))) bads)
+    (goods (ap (λ x. withLinks x (bare m)) (map-append forgetLink (m .links) (newLink id e k ∷ [])))) bads)
 
 abbrev forgetFields : LinkFields → LinkFields
 forgetFields l = linkFields (forget (l .id)) (forget (l .start)) (forget (l .end)) (forgetLinkKind (l .kind))

@@ -14,9 +14,9 @@ use Rattle.scope.specs.Spelling.{zeroText, signStar}
 use Rattle.scope.specs.Sections.{roomNodes, roomDemands}
 use Rattle.scope.specs.Records.{Network, Node, NodeKind, junction, reservoir, tank, Place, Demand, noNode, zeroF, withNodes, withDemands, nodeIds, lookup}
 use Rattle.scope.specs.Values.{good, bad}
-use Rattle.scope.specs.Nodes.{JunctionFields, junctionOf, junctionNode, junctionDemand, withJunction, addJunction, junctionStep, addNode, reservoirOf, reservoirStep, curveIn, overflowIn, tankNode, levelsOf, reservoirOr, tankOf, tankStep, onJunction, changeNode, emitting, setEmitter, emitterStep, standing, setPlace, coordinatesStep}
+use Rattle.scope.specs.Nodes.{JunctionFields, junctionOf, junctionNode, junctionDemand, withJunction, addJunction, junctionStep, addNode, reservoirOf, reservoirStep, curveIn, overflowIn, tankNode, levelsOf, reservoirOr, tankOf, tankStep, onJunction, changeNode, emitting, EmitterFields, emitterOf, setEmitter, emitterStep, standing, setPlace, coordinatesStep}
 use Rattle.scope.specs.Bare.{forget, forgetMaybe, forgetNode, forgetNodeKind, forgetDemand, bare}
-use Rattle.scope.proofs.Carry.{ReadLike, goods, bads, on-took, on-read, on-found, on-cond, name, optional, number-from, number-or, swallowed, flag-from, lookup-ids, map-set}
+use Rattle.scope.proofs.Carry.{ReadLike, goods, bads, on-took, on-read, on-found, on-cond, name, optional, number-from, number-or, swallowed, flag-from, pair-of, lookup-ids, map-set}
 
 pub node-found : (m : Network) (w : List ℕ) → lookup (nodeIds m) w ≡ lookup (nodeIds (bare m)) w
 node-found m w = lookup-ids (λ n. n .id) forgetNode (λ n. refl) (m .nodes) w
@@ -144,11 +144,18 @@ set-emitter id x m =
     (onJunction (y .kind) (λ j. good (changeNode i (emitting y j x) (bare m))) (bad WrongKind))) (node-at m i) (emits x m i n (n .kind)))
     bads
 
+abbrev forgetEmitter : EmitterFields → EmitterFields
+forgetEmitter e = record { id = forget (e .id); coefficient = e .coefficient }
+
+emitter-of : (fs : List Name) → ReadLike forgetEmitter (emitterOf fs) (emitterOf (map forget fs))
+unfolding emitterOf
+emitter-of fs =
+    on-took _ (name fs) (λ id fs.
+    on-took _ (number-from fs) (λ coefficient fs. goods refl))
+
 pub emitter-step : (fs : List Name) (m : Network) → ReadLike bare (emitterStep fs m) (emitterStep (map forget fs) (bare m))
 unfolding emitterStep
-emitter-step fs m =
-    on-took _ (name fs) (λ id fs.
-    on-took _ (number-from fs) (λ x fs. set-emitter id x m))
+emitter-step fs m = on-read _ (emitter-of fs) (λ e. set-emitter (e .id) (e .coefficient) m)
 
 set-place : (id : Name) (p : Place) (m : Network) → ReadLike bare (setPlace id p m) (setPlace (forget id) p (bare m))
 unfolding setPlace
@@ -158,7 +165,4 @@ set-place id p m =
 
 pub coordinates-step : (fs : List Name) (m : Network) → ReadLike bare (coordinatesStep fs m) (coordinatesStep (map forget fs) (bare m))
 unfolding coordinatesStep
-coordinates-step fs m =
-    on-took _ (name fs) (λ id fs.
-    on-took _ (number-from fs) (λ x fs.
-    on-took _ (number-from fs) (λ y fs. set-place id (record { x = x; y = y }) m)))
+coordinates-step fs m = on-read _ (pair-of fs) (λ p. set-place (p .id) (record { x = p .x; y = p .y }) m)

@@ -15,9 +15,9 @@ use Rattle.scope.specs.Sections.{roomCurves, roomPoints, roomPatterns, r
 use Rattle.scope.specs.Records.{Network, Node, NodeKind, junction, reservoir, tank, Demand, noNode, withNodes, withCurves, withPatterns, withDemands}
 use Rattle.scope.specs.Values.{bad}
 use Rattle.scope.specs.Nodes.{onJunction}
-use Rattle.scope.specs.Series.{lastX, falls, withPoint, addPoint, curveStep, multipliersOf, withValues, fitting, addPattern, patternStep, ownFrom, demandAt, addDemand, setDemand, demandStep, placeIn, indexOf, resolvedKind, resolvedNode, resolvedDemand, resolved}
+use Rattle.scope.specs.Series.{lastX, falls, withPoint, addPoint, curveStep, multipliersOf, PatternFields, patternOf, withValues, fitting, addPattern, patternStep, ownFrom, DemandFields, demandOf, demandAt, addDemand, setDemand, demandStep, placeIn, indexOf, resolvedKind, resolvedNode, resolvedDemand, resolved}
 use Rattle.scope.specs.Bare.{forget, forgetMaybe, forgetNode, forgetNodeKind, forgetDemand, bare}
-use Rattle.scope.proofs.Carry.{ReadLike, goods, bads, itself, on-took, on-read, on-found, on-cond, on-if, name, optional, number-from, as-number, lookup-forget, map-square, map-set}
+use Rattle.scope.proofs.Carry.{ReadLike, goods, bads, itself, on-took, on-read, on-found, on-cond, on-if, name, optional, number-from, as-number, pair-of, lookup-forget, map-square, map-set}
 use Rattle.scope.proofs.NodeLaws.{node-found, node-at, demands-long}
 
 -- ---- curves
@@ -34,10 +34,7 @@ add-point id x y m =
 
 pub curve-step : (fs : List Name) (m : Network) → ReadLike bare (curveStep fs m) (curveStep (map forget fs) (bare m))
 unfolding curveStep
-curve-step fs m =
-    on-took _ (name fs) (λ id fs.
-    on-took _ (number-from fs) (λ x fs.
-    on-took _ (number-from fs) (λ y fs. add-point id x y m)))
+curve-step fs m = on-read _ (pair-of fs) (λ p. add-point (p .id) (p .x) (p .y) m)
 
 -- ---- patterns
 patterns-long : (m : Network) → length (m .patterns) ≡ length (bare m .patterns)
@@ -55,11 +52,18 @@ add-pattern id xs m =
     (on-cond _ (ap (λ a. ltb a roomPatterns && fitting m xs) (patterns-long m))
     (goods (ap₂ (λ n p. withValues n xs (withPatterns p (bare m))) (patterns-long m) (map-append forget (m .patterns) (id ∷ [])))) bads)
 
+abbrev forgetPattern : PatternFields → PatternFields
+forgetPattern p = record { id = forget (p .id); values = p .values }
+
+pattern-of : (fs : List Name) → ReadLike forgetPattern (patternOf fs) (patternOf (map forget fs))
+unfolding patternOf
+pattern-of fs =
+    on-took _ (name fs) (λ id fs.
+    on-read _ (multipliers-of fs) (λ values. goods refl))
+
 pub pattern-step : (fs : List Name) (m : Network) → ReadLike bare (patternStep fs m) (patternStep (map forget fs) (bare m))
 unfolding patternStep
-pattern-step fs m =
-    on-took _ (name fs) (λ id fs.
-    on-read _ (multipliers-of fs) (λ xs. add-pattern id xs m))
+pattern-step fs m = on-read _ (pattern-of fs) (λ p. add-pattern (p .id) (p .values) m)
 
 -- ---- demands
 own-from : (k i : ℕ) (ds : List Demand) → ownFrom k i ds ≡ ownFrom k i (map forgetDemand ds)
@@ -89,12 +93,19 @@ set-demand id x p m =
     (onJunction (y .kind) (λ j. addDemand i x (forgetMaybe p) (bare m)) (bad WrongKind))) (node-at m i) (demand-on i x p m (n .kind)))
     bads
 
+abbrev forgetDemandFields : DemandFields → DemandFields
+forgetDemandFields d = record { id = forget (d .id); base = d .base; pattern = forgetMaybe (d .pattern) }
+
+demand-of : (fs : List Name) → ReadLike forgetDemandFields (demandOf fs) (demandOf (map forget fs))
+unfolding demandOf
+demand-of fs =
+    on-took _ (name fs) (λ id fs.
+    on-took _ (number-from fs) (λ base fs.
+    on-took _ (optional fs) (λ pattern fs. goods refl)))
+
 pub demand-step : (fs : List Name) (m : Network) → ReadLike bare (demandStep fs m) (demandStep (map forget fs) (bare m))
 unfolding demandStep
-demand-step fs m =
-    on-took _ (name fs) (λ id fs.
-    on-took _ (number-from fs) (λ x fs.
-    on-took _ (optional fs) (λ pattern fs. set-demand id x pattern m)))
+demand-step fs m = on-read _ (demand-of fs) (λ d. set-demand (d .id) (d .base) (d .pattern) m)
 
 -- ---- the patterns' places
 index-of : (ps : List Name) (n : Option Name) → indexOf ps n ≡ indexOf (map forget ps) (forgetMaybe n)

@@ -12,7 +12,7 @@ use Rattle.scans.proofs.LineLaws.{joined-chunks}
 use Rattle.lines.specs.Reader.{Mark, struck, strikeBy}
 use Rattle.lines.specs.Text.{strikeText, upTo}
 use Rattle.scope.specs.Sections.{roomText}
-use Rattle.scope.specs.Tables.{roomWords, roomNumbers}
+use Rattle.scope.specs.Layout.{roomWords, roomNumbers}
 use Rattle.scope.specs.Reading.{allLow, strictOf, told, tooSmall, strictAnswer, networkIn, strictNetwork, surveyed, surveyNetwork}
 use Rattle.scope.specs.Promises.{Readable, Roomy}
 

@@ -16,7 +16,7 @@ use Rattle.decimals.specs.declared.Number.the-variants as number
 use Rattle.fields.specs.Fields.{Name, fieldsOf}
 use Rattle.scans.specs.Lines.{cutOf}
 use Rattle.letters.specs.Words.{same}
-use Rattle.fields.proofs.FieldLaws.{Stands, Ordered, ordered, drop-take, part-take}
+use Rattle.fields.proofs.FieldLaws.{StandsFrom, Ordered, ordered, drop-take, part-take}
 use Rattle.scans.proofs.LineLaws.{cut-prefix}
 use Rattle.lines.specs.Text.{Line, Each, nothing, each}
 use Rattle.scope.specs.declared.Reason.{Reason}
@@ -32,13 +32,13 @@ use Rattle.scope.specs.declared.ValveType.the-variants.{Gpv, Tcv, Fcv, P
 use Rattle.scope.specs.Spelling.{zeroText, signStar, wordTrue, wordFalse, wordSpeed, wordHead, wordPower, wordSystem, wordNode, wordTank, wordIs, wordRule, wordIf, wordAnd, wordOr, wordThen, wordElse, wordPriority}
 use Rattle.scope.specs.Sections.{roomNodes, roomDemands, roomLinks, roomCurves, roomPoints, roomPatterns, roomRules, roomClauses}
 use Rattle.scope.specs.Records as R
-use Rattle.scope.specs.Records.{Network, Node, NodeKind, junction, reservoir, tank, LinkKind, pump, Pump, Demand, Condition, Action, noNode, zeroF, nodeIds, linkIds, ruleIds, lookup}
-use Rattle.scope.specs.Values.{Read, good, bad, onRead, Took, took, refused, onTook, onFound, nameFrom, optionalFrom, asNumber, numberFrom, numberOr, asSwallowed, swallowedFrom, flagFrom, countFrom}
-use Rattle.scope.specs.Nodes.{JunctionFields, junctionOf, addJunction, junctionStep, addNode, reservoirOf, reservoirStep, curveIn, levelsOf, reservoirOr, tankOf, tankStep, onJunction, emitting, setEmitter, emitterStep, standing, setPlace, coordinatesStep}
+use Rattle.scope.specs.Records.{Network, Node, NodeKind, junction, reservoir, tank, LinkKind, pump, Pump, Demand, Condition, Action, noNode, zeroF, nodeIds, linkIds, ruleIds, lookup, noLink}
+use Rattle.scope.specs.Values.{Read, good, bad, onRead, Took, took, refused, onTook, onFound, nameFrom, optionalFrom, asNumber, numberFrom, numberOr, asSwallowed, swallowedFrom, flagFrom, countFrom, PairFields, pairOf}
+use Rattle.scope.specs.Nodes.{JunctionFields, junctionOf, addJunction, junctionStep, addNode, reservoirOf, reservoirStep, curveIn, levelsOf, reservoirOr, tankOf, tankStep, onJunction, emitting, emitterOf, setEmitter, emitterStep, standing, setPlace, coordinatesStep}
 use Rattle.scope.specs.Links.{Ends, endsOf, addLink, LinkFields, storeLink, pipeOf, pipeStep, noPump, withSpeed, withPower, withPair, oneF, pumpFrom, pumpStep, typeOf, Setting, settingTook, curveTook, settingFrom, overriding, valveOf, valveStep}
-use Rattle.scope.specs.Series.{lastX, falls, addPoint, curveStep, multipliersOf, fitting, addPattern, patternStep, ownFrom, addDemand, setDemand, demandStep, resolvedKind, resolvedNode, resolvedDemand, resolved}
+use Rattle.scope.specs.Series.{lastX, falls, addPoint, curveStep, multipliersOf, PatternFields, patternOf, fitting, addPattern, patternStep, ownFrom, DemandFields, demandOf, addDemand, setDemand, demandStep, resolvedKind, resolvedNode, resolvedDemand, resolved}
 use Rattle.scope.specs.Times.{setTime, timesOf, timesStep}
-use Rattle.scope.specs.Rules.{systemTarget, nodeTarget, tankTarget, linkTarget, Aim, aimed, systemFrom, namedFrom, isLinkWord, aimFrom, comparisonOf, valueOf, conditionOf, kindFits, deedOf, noLink, actionOf, Draft, noDraft, conditioned, acted, anded, lineOf, linesOf, isCondition, isAction, some?, addRule, named, judged, groupStep}
+use Rattle.scope.specs.Rules.{systemTarget, nodeTarget, tankTarget, linkTarget, Aim, aimed, systemFrom, namedFrom, isLinkWord, aimFrom, comparisonOf, valueOf, conditionOf, kindFits, deedOf, actionOf, Draft, noDraft, conditioned, acted, anded, lineOf, linesOf, isCondition, isAction, some?, addRule, named, judged, groupStep}
 use Rattle.scope.specs.Written.{Sits, SitsOr, NodeKindWritten, NodeWritten, LinkKindWritten, ClauseWritten, Written}
 
 -- ---- what is read is fine
@@ -222,20 +222,17 @@ module _ (text : List ℕ) where
   pub emitter-step : (fs : List Name) (m : Network) → All fs → Written text m → Fine (Written text) (emitterStep fs m)
   unfolding emitterStep setEmitter
   emitter-step fs m s w =
-      from-took (name s) (λ id fs p s.
-      from-took (number-from s) (λ x fs y s.
-      from-found (lookup (nodeIds m) (id .letters)) (λ i.
+      from-read (any-read (emitterOf fs)) (λ e u.
+      from-found (lookup (nodeIds m) (e .id .letters)) (λ i.
       from-junction (getD (m .nodes) i noNode .kind) (λ j.
-      goodly (with-nodes w (each-change i noNode (λ n. emitting n j x) (λ n f. record { id = f .id; kind = tt }) (w .nodes)))) badly) badly))
+      goodly (with-nodes w (each-change i noNode (λ n. emitting n j (e .coefficient)) (λ n f. record { id = f .id; kind = tt }) (w .nodes)))) badly) badly)
 
   pub coordinates-step : (fs : List Name) (m : Network) → All fs → Written text m → Fine (Written text) (coordinatesStep fs m)
   unfolding coordinatesStep setPlace
   coordinates-step fs m s w =
-      from-took (name s) (λ id fs p s.
-      from-took (number-from s) (λ x fs u s.
-      from-took (number-from s) (λ y fs u s.
-      from-found (lookup (nodeIds m) (id .letters)) (λ i.
-      goodly (with-nodes w (each-change i noNode (λ n. standing n (record { x = x; y = y })) (λ n f. record { id = f .id; kind = f .kind }) (w .nodes)))) badly)))
+      from-read (any-read (pairOf fs)) (λ p u.
+      from-found (lookup (nodeIds m) (p .id .letters)) (λ i.
+      goodly (with-nodes w (each-change i noNode (λ n. standing n (record { x = p .x; y = p .y })) (λ n f. record { id = f .id; kind = f .kind }) (w .nodes)))) badly)
 
   -- ---- links
   pub record LinkFine (l : LinkFields) : Type 0 where
@@ -362,36 +359,51 @@ module _ (text : List ℕ) where
   with-multipliers : {m : Network} (xs : List R.Multiplier) → Written text m → Written text (R.withMultipliers xs m)
   with-multipliers xs w = record { nodes = w .nodes; links = w .links; curves = w .curves; patterns = w .patterns; demands = w .demands; rules = w .rules; clauses = w .clauses; times = w .times }
 
+  pair-of : (fs : List Name) → All fs → Fine (λ (p : PairFields). Sits text (p .id)) (pairOf fs)
+  unfolding pairOf
+  pair-of fs s =
+      from-took (name s) (λ id fs p s.
+      from-took (number-from s) (λ x fs u s.
+      from-took (number-from s) (λ y fs u s. goodly p)))
+
   pub curve-step : (fs : List Name) (m : Network) → All fs → Written text m → Fine (Written text) (curveStep fs m)
   unfolding curveStep addPoint
   curve-step fs m s w =
-      from-took (name s) (λ id fs p s.
-      from-took (number-from s) (λ x fs u s.
-      from-took (number-from s) (λ y fs u s.
-      from-found (lookup (m .curves) (id .letters))
-      (λ i. from-if (falls x (lastX i (m .points))) badly (from-if (ltb (length (m .points)) roomPoints) (goodly (with-points _ w)) badly))
+      from-read (pair-of fs s) (λ p q.
+      from-found (lookup (m .curves) (p .id .letters))
+      (λ i. from-if (falls (p .x) (lastX i (m .points))) badly (from-if (ltb (length (m .points)) roomPoints) (goodly (with-points _ w)) badly))
       (from-if (ltb (length (m .curves)) roomCurves && ltb (length (m .points)) roomPoints)
-      (goodly (with-points _ (with-curves w (each-append (w .curves) (one p))))) badly))))
+      (goodly (with-points _ (with-curves w (each-append (w .curves) (one q))))) badly))
+
+  pattern-of : (fs : List Name) → All fs → Fine (λ (p : PatternFields). Sits text (p .id)) (patternOf fs)
+  unfolding patternOf
+  pattern-of fs s =
+      from-took (name s) (λ id fs p s.
+      from-read (any-read (multipliersOf fs)) (λ values u. goodly p))
 
   pub pattern-step : (fs : List Name) (m : Network) → All fs → Written text m → Fine (Written text) (patternStep fs m)
   unfolding patternStep addPattern
   pattern-step fs m s w =
+      from-read (pattern-of fs s) (λ p q.
+      from-found (lookup (m .patterns) (p .id .letters)) (λ i. from-if (fitting m (p .values)) (goodly (with-multipliers _ w)) badly)
+      (from-if (ltb (length (m .patterns)) roomPatterns && fitting m (p .values))
+      (goodly (with-multipliers _ (with-patterns w (each-append (w .patterns) (one q))))) badly))
+
+  demand-of : (fs : List Name) → All fs → Fine (λ (d : DemandFields). SitsOr text (d .pattern)) (demandOf fs)
+  unfolding demandOf
+  demand-of fs s =
       from-took (name s) (λ id fs p s.
-      from-read (any-read (multipliersOf fs)) (λ xs u.
-      from-found (lookup (m .patterns) (id .letters)) (λ i. from-if (fitting m xs) (goodly (with-multipliers _ w)) badly)
-      (from-if (ltb (length (m .patterns)) roomPatterns && fitting m xs)
-      (goodly (with-multipliers _ (with-patterns w (each-append (w .patterns) (one p))))) badly)))
+      from-took (number-from s) (λ base fs u s.
+      from-took (optional s) (λ pattern fs q s. goodly q)))
 
   pub demand-step : (fs : List Name) (m : Network) → All fs → Written text m → Fine (Written text) (demandStep fs m)
   unfolding demandStep setDemand addDemand
   demand-step fs m s w =
-      from-took (name s) (λ id fs p s.
-      from-took (number-from s) (λ x fs u s.
-      from-took (optional s) (λ pattern fs q s.
-      from-found (lookup (nodeIds m) (id .letters)) (λ i.
+      from-read (demand-of fs s) (λ d q.
+      from-found (lookup (nodeIds m) (d .id .letters)) (λ i.
       from-junction (getD (m .nodes) i noNode .kind) (λ j.
       from-found (ownFrom 0 i (m .demands)) (λ k. goodly (with-demands w (each-set k (w .demands) q)))
-      (from-if (ltb (length (m .demands)) roomDemands) (goodly (with-demands w (each-append (w .demands) (one q)))) badly)) badly) badly)))
+      (from-if (ltb (length (m .demands)) roomDemands) (goodly (with-demands w (each-append (w .demands) (one q)))) badly)) badly) badly)
 
   resolved-kind : (ps : List Name) (k : NodeKind) → NodeKindWritten text k → NodeKindWritten text (resolvedKind ps k)
   resolved-kind ps (junction j) h = h
@@ -531,7 +543,7 @@ module _ (text : List ℕ) where
   abbrev Stood : ℕ → List ℕ → Type 0
   Stood at c = take (length c) (drop at text) ≡ c
 
-  sits : (e from : ℕ) (n : Name) → Stands (take e text) from n → Sits text n
+  sits : (e from : ℕ) (n : Name) → StandsFrom (take e text) from n → Sits text n
   sits e from n s =
       let a : ℕ = n .at in
       let j : ℕ = length (n .letters) in

@@ -16,6 +16,7 @@ pub mod Rules
 -- Lines and groups
 pub mod Lines
 -- What a reader of a crew sheet may rely on
+pub mod Layout
 pub mod Tables
 pub mod Reading
 pub mod Bare

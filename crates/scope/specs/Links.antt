@@ -12,7 +12,7 @@ use Rattle.decimals.specs.declared.Number as N
 use Rattle.decimals.specs.declared.Number.the-variants as number
 use Rattle.fields.specs.Fields.{Name}
 use Rattle.letters.specs.Words.{same, spelled}
-use Rattle.scope.specs.declared.Reason.the-variants.{Missing, Used, NotFound, Unknown, Beyond, Full}
+use Rattle.scope.specs.declared.Reason.the-variants.{Missing, Used, NotFound, UnknownWord, BeyondReach, NoRoom}
 use Rattle.scope.specs.declared.PipeStatus.{PipeStatus}
 use Rattle.scope.specs.declared.PipeStatus.the-variants.{Open, Closed, CheckValve}
 use Rattle.scope.specs.declared.ValveType.{ValveType}
@@ -36,14 +36,17 @@ endsOf start end m =
     (bad NotFound))
     (bad NotFound)
 
+abbrev pub newLink : Name → Ends → LinkKind → Link
+newLink id e k = record { id = id; start = e .start; end = e .end; kind = k }
+
 abbrev pub withLink : Name → Ends → LinkKind → Network → Network
-withLink id e k m = withLinks (m .links ++ (record { id = id; start = e .start; end = e .end; kind = k } ∷ [])) m
+withLink id e k m = withLinks (m .links ++ (newLink id e k ∷ [])) m
 
 -- "here a used id is 3, else the link is appended"; 23 where the links are full
 unfoldable pub addLink : Name → Ends → LinkKind → Network → Read Network
 addLink id e k m =
     onFound (lookup (linkIds m) (id .letters)) (λ i. bad Used)
-    (cond (ltb (length (m .links)) roomLinks) (good (withLink id e k m)) (bad Full))
+    (cond (ltb (length (m .links)) roomLinks) (good (withLink id e k m)) (bad NoRoom))
 
 -- a link's line: its id, its two nodes, and what kind it is
 pub record LinkFields : Type 0 where
@@ -127,7 +130,7 @@ typeOf w =
     (cond (spelled w wordPrv) (good Prv)
     (cond (spelled w wordPsv) (good Psv)
     (cond (spelled w wordPbv) (good Pbv)
-    (cond (spelled w wordPcv) (good Pcv) (bad Unknown)))))))
+    (cond (spelled w wordPcv) (good Pcv) (bad UnknownWord)))))))
 
 -- the setting, and the curve that stands in its place
 pub record Setting : Type 0 where

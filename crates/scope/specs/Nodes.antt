@@ -8,11 +8,11 @@ use lib.Dec.{ltb}
 use lib.Ieee.{Float}
 use Rattle.fields.specs.Fields.{Name, rest}
 use Rattle.letters.specs.Words.{same, spelled}
-use Rattle.scope.specs.declared.Reason.the-variants.{Used, NotFound, WrongKind, Full}
+use Rattle.scope.specs.declared.Reason.the-variants.{Used, NotFound, WrongKind, NoRoom}
 use Rattle.scope.specs.Spelling.{zeroText, signStar, wordYes}
 use Rattle.scope.specs.Sections.{roomNodes, roomDemands}
 use Rattle.scope.specs.Records.{Network, Node, NodeKind, junction, reservoir, tank, Junction, Reservoir, Tank, Place, Demand, zeroF, noNode, withNodes, withDemands, nodeIds, lookup}
-use Rattle.scope.specs.Values.{Read, good, bad, onRead, Took, took, refused, onTook, onFound, nameFrom, optionalFrom, numberFrom, numberOr, swallowedFrom, flagFrom}
+use Rattle.scope.specs.Values.{Read, good, bad, onRead, Took, took, refused, onTook, onFound, nameFrom, optionalFrom, numberFrom, numberOr, swallowedFrom, flagFrom, pairOf}
 
 -- ---- "Junction: id, elevation, demand, pattern, disabled."
 pub record JunctionFields : Type 0 where
@@ -45,7 +45,7 @@ withJunction j m = withDemands (m .demands ++ (junctionDemand (length (m .nodes)
 unfoldable pub addJunction : JunctionFields → Network → Read Network
 addJunction j m =
     onFound (lookup (nodeIds m) (j .id .letters)) (λ i. bad Used)
-    (cond (ltb (length (m .nodes)) roomNodes && ltb (length (m .demands)) roomDemands) (good (withJunction j m)) (bad Full))
+    (cond (ltb (length (m .nodes)) roomNodes && ltb (length (m .demands)) roomDemands) (good (withJunction j m)) (bad NoRoom))
 
 unfoldable pub junctionStep : List Name → Network → Read Network
 junctionStep fs m = onRead (junctionOf fs) (λ j. addJunction j m)
@@ -55,7 +55,7 @@ junctionStep fs m = onRead (junctionOf fs) (λ j. addJunction j m)
 unfoldable pub addNode : Node → Network → Read Network
 addNode n m =
     onFound (lookup (nodeIds m) (n .id .letters)) (λ i. bad Used)
-    (cond (ltb (length (m .nodes)) roomNodes) (good (withNodes (m .nodes ++ (n ∷ [])) m)) (bad Full))
+    (cond (ltb (length (m .nodes)) roomNodes) (good (withNodes (m .nodes ++ (n ∷ [])) m)) (bad NoRoom))
 
 abbrev pub reservoirNode : Name → Float → Option Name → Node
 reservoirNode id elevation pattern = record { id = id; kind = reservoir (record { elevation = elevation; pattern = pattern; index = none }); place = none }
@@ -128,6 +128,16 @@ changeNode i n m = withNodes (set (m .nodes) i n) m
 abbrev pub emitting : Node → Junction → Float → Node
 emitting n j x = record { id = n .id; kind = junction (record { elevation = j .elevation; emitter = x; disabled = j .disabled }); place = n .place }
 
+pub record EmitterFields : Type 0 where
+  pub id : Name
+  pub coefficient : Float
+
+unfoldable pub emitterOf : List Name → Read EmitterFields
+emitterOf fs =
+    onTook (nameFrom fs) (λ id fs.
+    onTook (numberFrom fs) (λ coefficient fs.
+    good (record { id = id; coefficient = coefficient })))
+
 -- 4 where there is no such node, 5 where it is no junction
 unfoldable pub setEmitter : Name → Float → Network → Read Network
 setEmitter id x m =
@@ -136,10 +146,7 @@ setEmitter id x m =
     (bad NotFound)
 
 unfoldable pub emitterStep : List Name → Network → Read Network
-emitterStep fs m =
-    onTook (nameFrom fs) (λ id fs.
-    onTook (numberFrom fs) (λ x fs.
-    setEmitter id x m))
+emitterStep fs m = onRead (emitterOf fs) (λ e. setEmitter (e .id) (e .coefficient) m)
 
 -- ---- "Coordinates: any node."
 abbrev pub standing : Node → Place → Node
@@ -150,8 +157,4 @@ setPlace id p m =
     onFound (lookup (nodeIds m) (id .letters)) (λ i. good (changeNode i (standing (getD (m .nodes) i noNode) p) m)) (bad NotFound)
 
 unfoldable pub coordinatesStep : List Name → Network → Read Network
-coordinatesStep fs m =
-    onTook (nameFrom fs) (λ id fs.
-    onTook (numberFrom fs) (λ x fs.
-    onTook (numberFrom fs) (λ y fs.
-    setPlace id (record { x = x; y = y }) m)))
+coordinatesStep fs m = onRead (pairOf fs) (λ p. setPlace (p .id) (record { x = p .x; y = p .y }) m)

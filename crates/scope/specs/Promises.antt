@@ -11,7 +11,7 @@ use Rattle.scope.specs.declared.Section.the-variants.{Passed}
 use Rattle.scope.specs.Sections.{roomText}
 use Rattle.scope.specs.Records.{noNetwork}
 use Rattle.scope.specs.Lines.{inp}
-use Rattle.scope.specs.Tables.{roomWords, roomNumbers}
+use Rattle.scope.specs.Layout.{roomWords, roomNumbers}
 use Rattle.scope.specs.Reading.{allLow, marksOf, surveyOf}
 
 -- a text that is not refused whole

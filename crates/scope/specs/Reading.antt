@@ -17,7 +17,8 @@ use Rattle.scope.specs.Sections.{roomText, roomLines}
 use Rattle.scope.specs.Answers.{reasonNo}
 use Rattle.scope.specs.Records.{Network, noNetwork}
 use Rattle.scope.specs.Lines.{inp}
-use Rattle.scope.specs.Tables.{roomWords, roomNumbers, wordsOf, numbersOf}
+use Rattle.scope.specs.Tables.{wordsOf, numbersOf}
+use Rattle.scope.specs.Layout.{roomWords, roomNumbers}
 
 -- ---- the two readings of a text: before any header, no group open, nothing stored
 abbrev pub atStart : Standing Section Line Network

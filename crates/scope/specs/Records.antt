@@ -11,12 +11,16 @@ use Rattle.fields.specs.Fields.{Name}
 use Rattle.letters.specs.Words.{same}
 use Rattle.scope.specs.declared.Found.{Found}
 use Rattle.scope.specs.declared.Found.the-variants.{At, Nowhere}
+use Rattle.scope.specs.declared.Kind.{Kind}
+use Rattle.scope.specs.declared.Kind.the-variants.{Nodes, Links, Curves, Patterns, Rules}
 use Rattle.scope.specs.declared.PipeStatus.{PipeStatus}
+use Rattle.scope.specs.declared.PipeStatus.the-variants.{Open}
 use Rattle.scope.specs.declared.ValveType.{ValveType}
 use Rattle.scope.specs.declared.Target.{Target}
 use Rattle.scope.specs.declared.Comparison.{Comparison}
 use Rattle.scope.specs.declared.Operator.{Operator}
 use Rattle.scope.specs.declared.Value.{Value}
+use Rattle.scope.specs.declared.Value.the-variants.{Number}
 use Rattle.scope.specs.declared.Counts.{Counts}
 
 abbrev pub zeroF : Float
@@ -179,6 +183,21 @@ linkIds m = map (λ l. l .id) (m .links)
 abbrev pub ruleIds : Network → List Name
 ruleIds m = map (λ r. r .id) (m .rules)
 
+-- the ids of the records of a kind, and how many they are by the counts
+abbrev pub idsOf : Kind → Network → List Name
+idsOf Nodes m = nodeIds m
+idsOf Links m = linkIds m
+idsOf Curves m = m .curves
+idsOf Patterns m = m .patterns
+idsOf Rules m = ruleIds m
+
+abbrev pub recordsOf : Kind → Counts → ℕ
+recordsOf Nodes c = c .nodes
+recordsOf Links c = c .links
+recordsOf Curves c = c .curves
+recordsOf Patterns c = c .patterns
+recordsOf Rules c = c .rules
+
 -- ---- what stands past the end of a list
 abbrev pub noName : Name
 noName = record { at = 0; letters = [] }
@@ -188,6 +207,27 @@ noJunction = record { elevation = zeroF; emitter = zeroF; disabled = false }
 
 abbrev pub noNode : Node
 noNode = record { id = noName; kind = junction noJunction; place = none }
+
+abbrev pub noPipe : Pipe
+noPipe = record { long = zeroF; diameter = zeroF; roughness = zeroF; minor = zeroF; status = Open }
+
+abbrev pub noLink : Link
+noLink = record { id = noName; start = 0; end = 0; kind = pipe noPipe }
+
+abbrev pub noPoint : Point
+noPoint = record { curve = 0; x = zeroF; y = zeroF }
+
+abbrev pub noMultiplier : Multiplier
+noMultiplier = record { pattern = 0; value = zeroF }
+
+abbrev pub noDemand : Demand
+noDemand = record { node = 0; own = false; base = zeroF; pattern = none; index = none }
+
+abbrev pub noRule : Rule
+noRule = record { id = noName; priority = none; first = 0; count = 0 }
+
+abbrev pub noClause : Clause
+noClause = action (record { link = 0; name = noName; value = Number zeroF; otherwise = false })
 
 -- ---- the network with another of its lists
 abbrev pub withNodes : List Node → Network → Network

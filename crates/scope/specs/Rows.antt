@@ -25,12 +25,12 @@ use Rattle.scope.specs.declared.Answer.{Answer}
 use Rattle.scope.specs.declared.Survey.{Survey}
 use Rattle.scope.specs.Tables.{pipeStatusNo}
 use Rattle.scope.specs.Answers.{reasonNo}
-use Rattle.scope.specs.Sections.{sectionOf}
+use Rattle.scope.specs.Sections.{sectionOf, roomNodes}
 use Rattle.scope.specs.Records.{Network, Node, Link, LinkKind, pipe, pump, valve, Clause, condition, action, Demand, lookupFrom, noNetwork, noNode, withNodes}
-use Rattle.scope.specs.Values.{Read, good, bad}
-use Rattle.scope.specs.Nodes.{junctionOf, addJunction, junctionStep, addNode, reservoirOf, reservoirStep, levelsOf, tankOf, tankStep, setEmitter, emitterStep, setPlace, coordinatesStep}
+use Rattle.scope.specs.Values.{Read, good, bad, pairOf}
+use Rattle.scope.specs.Nodes.{junctionOf, addJunction, junctionStep, addNode, reservoirOf, reservoirStep, levelsOf, tankOf, tankStep, emitterOf, setEmitter, emitterStep, setPlace, coordinatesStep}
 use Rattle.scope.specs.Links.{endsOf, addLink, storeLink, pipeOf, pipeStep, withPair, pumpFrom, pumpStep, typeOf, settingFrom, valveOf, valveStep, oneF}
-use Rattle.scope.specs.Series.{lastX, addPoint, curveStep, multipliersOf, addPattern, patternStep, ownFrom, addDemand, setDemand, demandStep, resolved}
+use Rattle.scope.specs.Series.{lastX, addPoint, curveStep, multipliersOf, patternOf, addPattern, patternStep, ownFrom, demandOf, addDemand, setDemand, demandStep, resolved}
 use Rattle.scope.specs.Times.{optionOf, optionOfTwo, timesOf, timesStep}
 use Rattle.scope.specs.Rules.{aimFrom, comparisonOf, valueOf, conditionOf, kindFits, deedOf, actionOf, lineOf, addRule, judged, groupStep, isCondition, isAction}
 use Rattle.scope.specs.Rules as rules
@@ -179,7 +179,7 @@ whole n = ofInt binary64 (pos n)
 
 -- a network whose nodes are full, and a node of one letter, or of none as those have
 full : Network
-full = withNodes (replicate 256 noNode) noNetwork
+full = withNodes (replicate roomNodes noNode) noNetwork
 
 aNode : List ℕ → Node
 aNode letters = record { id = record { at = 0; letters = letters }; kind = noNode .kind; place = none }
@@ -210,5 +210,5 @@ record Right : Type 0 where
   last-tested : map (λ l. answerTo (addNode (aNode l) full)) ([] ∷ (65 ∷ []) ∷ []) ≡ 3 ∷ 23 ∷ []
 
 right : Right
-unfolding sampleTally rows stored linkNumbers linkStatus elses whole full aNode answerTo bytes sample records howMany clauses counts refusals tally marksOf surveyed surveyOf strictOf told networkIn surveyMarks surveyRecs strict code count pieceNo linesOf sectionOf lookupFrom junctionOf addJunction junctionStep addNode reservoirOf reservoirStep levelsOf tankOf tankStep setEmitter emitterStep setPlace coordinatesStep endsOf addLink storeLink pipeOf pipeStep withPair pumpFrom pumpStep typeOf settingFrom valveOf valveStep lastX addPoint curveStep multipliersOf addPattern patternStep ownFrom addDemand setDemand demandStep resolved optionOf optionOfTwo timesOf timesStep aimFrom comparisonOf valueOf conditionOf kindFits deedOf actionOf lineOf rules.linesOf addRule judged groupStep sortBy sortOf stepOf inp trimmed lineKind cutOf startTrimmed endTrimmed fieldsOf same numberOf countOf timeOf clock.named colonForm hourOf inUnit colonAt withoutS unitOf meaning mul div ofInt ofBits neg lt
+unfolding sampleTally rows stored linkNumbers linkStatus elses whole full aNode answerTo bytes sample records howMany clauses counts refusals tally marksOf surveyed surveyOf strictOf told networkIn surveyMarks surveyRecs strict code count pieceNo linesOf sectionOf lookupFrom junctionOf addJunction junctionStep addNode reservoirOf reservoirStep levelsOf tankOf tankStep setEmitter emitterOf emitterStep setPlace pairOf coordinatesStep endsOf addLink storeLink pipeOf pipeStep withPair pumpFrom pumpStep typeOf settingFrom valveOf valveStep lastX addPoint curveStep multipliersOf patternOf addPattern patternStep ownFrom addDemand setDemand demandOf demandStep resolved optionOf optionOfTwo timesOf timesStep aimFrom comparisonOf valueOf conditionOf kindFits deedOf actionOf lineOf rules.linesOf addRule judged groupStep sortBy sortOf stepOf inp trimmed lineKind cutOf startTrimmed endTrimmed fieldsOf same numberOf countOf timeOf clock.named colonForm hourOf inUnit colonAt withoutS unitOf meaning mul div ofInt ofBits neg lt
 right = record { sampled = refl; closing = refl; answered = refl; speed = refl; check-valve = refl; afternoon = refl; else-stays = refl; replaced = refl; last-tested = refl }

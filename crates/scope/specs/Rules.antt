@@ -10,7 +10,7 @@ use lib.Ieee.{Float, binary64, ofInt}
 use Rattle.decimals.specs.Numbers.{numberOf}
 use Rattle.fields.specs.Fields.{Name}
 use Rattle.letters.specs.Words.{same}
-use Rattle.scope.specs.declared.Reason.the-variants.{Missing, Used, NotFound, WrongKind, Unknown, NoCondition, NoAction, NoId, Beyond, Full}
+use Rattle.scope.specs.declared.Reason.the-variants.{Missing, Used, NotFound, WrongKind, UnknownWord, NoCondition, NoAction, NoId, BeyondReach, NoRoom}
 use Rattle.scope.specs.declared.SystemAttribute.the-variants as system
 use Rattle.scope.specs.declared.NodeAttribute.the-variants as node
 use Rattle.scope.specs.declared.TankAttribute.the-variants as tankHas
@@ -19,7 +19,7 @@ use Rattle.scope.specs.declared.SystemAttribute.{SystemAttribute}
 use Rattle.scope.specs.declared.Target.{Target}
 use Rattle.scope.specs.declared.Target.the-variants.{System, Node, Tank, Link}
 use Rattle.scope.specs.declared.Comparison.{Comparison}
-use Rattle.scope.specs.declared.Comparison.the-variants.{Equal, Differs, Above, Below, AtLeast, AtMost}
+use Rattle.scope.specs.declared.Comparison.the-variants.{Equal, NotEqual, Above, Below, AtLeast, AtMost}
 use Rattle.scope.specs.declared.Operator.{Operator}
 use Rattle.scope.specs.declared.Operator.the-variants.{And, Or}
 use Rattle.scope.specs.declared.Value.{Value}
@@ -29,7 +29,7 @@ use Rattle.scope.specs.declared.LinkStatus.the-variants.{Open, Closed, A
 use Rattle.scope.specs.Spelling.{wordRule, wordIf, wordAnd, wordOr, wordThen, wordElse, wordPriority, wordSystem, wordNode, wordTank, wordLink, wordPipe, wordValve, wordPump, wordDemand, wordTime, wordClocktime, wordHead, wordPressure, wordLevel, wordFilltime, wordDraintime, wordFlow, wordStatus, wordSetting, wordIs, signEquals, wordNot, signUnequal, wordAbove, signAbove, wordBelow, signBelow, signAtLeast, signAtMost, wordOpen, wordClosed, wordActive}
 use Rattle.scope.specs.Sections.{roomRules, roomClauses}
 use Rattle.scope.specs.Records as R
-use Rattle.scope.specs.Records.{Network, LinkKind, pipe, pump, valve, noName, Clause, condition, action, Condition, Action, withRules, withClauses, linkIds, ruleIds, lookup}
+use Rattle.scope.specs.Records.{Network, LinkKind, pipe, pump, valve, noName, Clause, condition, action, Condition, Action, withRules, withClauses, linkIds, ruleIds, lookup, noLink}
 use Rattle.scope.specs.Values.{Read, good, bad, onRead, Took, took, refused, onTook, onFound, nameFrom, asNumber, countFrom, timeAt}
 
 -- ---- "a condition's target is one of four kinds, each with its own attribute (system, node, tank, link); ids in conditions are not looked up"
@@ -37,7 +37,7 @@ abbrev pub systemTarget : List ℕ → Option Target
 systemTarget w =
     cond (same w wordDemand) (some (System system.Demand))
     (cond (same w wordTime) (some (System system.Time))
-    (cond (same w wordClocktime) (some (System system.ClockTime)) none))
+    (cond (same w wordClocktime) (some (System system.Clocktime)) none))
 
 abbrev pub nodeTarget : List ℕ → Option Target
 nodeTarget w =
@@ -48,8 +48,8 @@ nodeTarget w =
 abbrev pub tankTarget : List ℕ → Option Target
 tankTarget w =
     cond (same w wordLevel) (some (Tank tankHas.Level))
-    (cond (same w wordFilltime) (some (Tank tankHas.FillTime))
-    (cond (same w wordDraintime) (some (Tank tankHas.DrainTime)) none))
+    (cond (same w wordFilltime) (some (Tank tankHas.Filltime))
+    (cond (same w wordDraintime) (some (Tank tankHas.Draintime)) none))
 
 abbrev pub linkTarget : List ℕ → Option Target
 linkTarget w =
@@ -63,7 +63,7 @@ pub record Aim : Type 0 where
   pub name : Option Name
 
 abbrev pub aimed : Option Name → Option Target → List Name → Took Aim
-aimed n none fs = refused Unknown
+aimed n none fs = refused UnknownWord
 aimed n (some t) fs = took (record { target = t; name = n }) fs
 
 -- the attribute after SYSTEM; the id and the attribute after another word
@@ -85,29 +85,29 @@ aimFrom (w ∷ fs) =
     cond (same (w .letters) wordSystem) (systemFrom fs)
     (cond (same (w .letters) wordNode) (namedFrom nodeTarget fs)
     (cond (same (w .letters) wordTank) (namedFrom tankTarget fs)
-    (cond (isLinkWord (w .letters)) (namedFrom linkTarget fs) (refused Unknown))))
+    (cond (isLinkWord (w .letters)) (namedFrom linkTarget fs) (refused UnknownWord))))
 
 -- "Comparisons are IS or =, NOT or <>, ABOVE or >, BELOW or <, >= and <=, in capitals."
 unfoldable pub comparisonOf : List ℕ → Read Comparison
 comparisonOf w =
     cond (same w wordIs || same w signEquals) (good Equal)
-    (cond (same w wordNot || same w signUnequal) (good Differs)
+    (cond (same w wordNot || same w signUnequal) (good NotEqual)
     (cond (same w wordAbove || same w signAbove) (good Above)
     (cond (same w wordBelow || same w signBelow) (good Below)
     (cond (same w signAtLeast) (good AtLeast)
-    (cond (same w signAtMost) (good AtMost) (bad Unknown))))))
+    (cond (same w signAtMost) (good AtMost) (bad UnknownWord))))))
 
 -- "A condition's value is a number or one of three status words. System TIME and CLOCKTIME values are times; above 2^53 seconds they are 22."
 abbrev pub isTime : Target → Bool
 isTime (System system.Demand) = false
 isTime (System system.Time) = true
-isTime (System system.ClockTime) = true
+isTime (System system.Clocktime) = true
 isTime (Node a) = false
 isTime (Tank a) = false
 isTime (Link a) = false
 
 abbrev pub secondsValue : ℕ → Read Value
-secondsValue n = cond (leb n (2 ^ 53)) (good (Number (ofInt binary64 (pos n)))) (bad Beyond)
+secondsValue n = cond (leb n (2 ^ 53)) (good (Number (ofInt binary64 (pos n)))) (bad BeyondReach)
 
 abbrev pub numberValue : Took Float → Read Value
 numberValue (took x fs) = good (Number x)
@@ -158,19 +158,16 @@ kindFits w k =
     cond (same w wordLink) (good tt)
     (cond (same w wordPipe) (ofKind (isPipe k))
     (cond (same w wordValve) (ofKind (isValve k))
-    (cond (same w wordPump) (ofKind (isPump k)) (bad Unknown))))
+    (cond (same w wordPump) (ofKind (isPump k)) (bad UnknownWord))))
 
 -- STATUS and OPEN or CLOSED, or SETTING and a number
 abbrev pub statusValue : List ℕ → Read Value
-statusValue w = cond (same w wordOpen) (good (Status Open)) (cond (same w wordClosed) (good (Status Closed)) (bad Unknown))
+statusValue w = cond (same w wordOpen) (good (Status Open)) (cond (same w wordClosed) (good (Status Closed)) (bad UnknownWord))
 
 unfoldable pub deedOf : List ℕ → Name → Read Value
 deedOf what v =
     cond (same what wordStatus) (statusValue (v .letters))
-    (cond (same what wordSetting) (numberValue (asNumber (numberOf (v .letters)) [])) (bad Unknown))
-
-abbrev pub noLink : R.Link
-noLink = record { id = noName; start = 0; end = 0; kind = pipe (record { long = R.zeroF; diameter = R.zeroF; roughness = R.zeroF; minor = R.zeroF; status = Rattle.scope.specs.declared.PipeStatus.the-variants.Open }) }
+    (cond (same what wordSetting) (numberValue (asNumber (numberOf (v .letters)) [])) (bad UnknownWord))
 
 -- an action, by the fields after its first word; `otherwise` where it is an else action
 unfoldable pub actionOf : Bool → Network → List Name → Read Action
@@ -185,7 +182,7 @@ actionOf otherwise m fs =
     (onTook (nameFrom fs) (λ v fs.
     onRead (deedOf (what .letters) v) (λ value.
     good (record { link = i; name = id; value = value; otherwise = otherwise }))))
-    (bad Unknown)))))
+    (bad UnknownWord)))))
     (bad NotFound)))
 
 -- ---- a group, as far as its lines are read: whether a THEN was, whether an ELSE was
@@ -237,7 +234,7 @@ lineOf m d (w ∷ fs) =
     (cond (same (w .letters) wordThen) (acted true (d .otherwise) false m fs d)
     (cond (same (w .letters) wordAnd) (anded (d .acting) m fs d)
     (cond (same (w .letters) wordElse) (acted (d .acting) true true m fs d)
-    (cond (same (w .letters) wordPriority) (ranked fs d) (bad Unknown)))))))
+    (cond (same (w .letters) wordPriority) (ranked fs d) (bad UnknownWord)))))))
 
 unfoldable pub linesOf : Network → Draft → List (List Name) → Read Draft
 linesOf m d [] = good d
@@ -264,7 +261,7 @@ withRule id d m =
 unfoldable pub addRule : Name → Draft → Network → Read Network
 addRule id d m =
     onFound (lookup (ruleIds m) (id .letters)) (λ i. bad Used)
-    (cond (ltb (length (m .rules)) roomRules && leb (length (m .clauses) + length (d .clauses)) roomClauses) (good (withRule id d m)) (bad Full))
+    (cond (ltb (length (m .rules)) roomRules && leb (length (m .clauses) + length (d .clauses)) roomClauses) (good (withRule id d m)) (bad NoRoom))
 
 abbrev pub named : Option Name → Draft → Network → Read Network
 named none d m = bad NoId

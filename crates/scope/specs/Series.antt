@@ -8,12 +8,12 @@ use lib.Dec.{ltb, leb, eqb}
 use lib.Ieee.{Float, lt}
 use Rattle.decimals.specs.Numbers.{numberOf}
 use Rattle.fields.specs.Fields.{Name}
-use Rattle.scope.specs.declared.Reason.the-variants.{NotFound, WrongKind, Falling, Full}
+use Rattle.scope.specs.declared.Reason.the-variants.{NotFound, WrongKind, XFalls, NoRoom}
 use Rattle.scope.specs.declared.Found.{Found}
 use Rattle.scope.specs.declared.Found.the-variants.{At, Nowhere}
 use Rattle.scope.specs.Sections.{roomCurves, roomPoints, roomPatterns, roomMultipliers, roomDemands}
 use Rattle.scope.specs.Records.{Network, Node, NodeKind, junction, reservoir, tank, Reservoir, Point, Multiplier, Demand, noNode, withNodes, withCurves, withPoints, withPatterns, withMultipliers, withDemands, nodeIds, lookup}
-use Rattle.scope.specs.Values.{Read, good, bad, onRead, onTook, onFound, nameFrom, optionalFrom, numberFrom, asNumber}
+use Rattle.scope.specs.Values.{Read, good, bad, onRead, onTook, onFound, nameFrom, optionalFrom, numberFrom, asNumber, pairOf}
 use Rattle.scope.specs.Nodes.{onJunction}
 
 -- ---- "Curve: id, x, y." "x equal to the last is taken, smaller 6, NaN taken."
@@ -37,22 +37,28 @@ withPoint i x y m = withPoints (m .points ++ (record { curve = i; x = x; y = y }
 unfoldable pub addPoint : Name → Float → Float → Network → Read Network
 addPoint id x y m =
     onFound (lookup (m .curves) (id .letters)) (λ i.
-    cond (falls x (lastX i (m .points))) (bad Falling)
-    (cond (ltb (length (m .points)) roomPoints) (good (withPoint i x y m)) (bad Full)))
+    cond (falls x (lastX i (m .points))) (bad XFalls)
+    (cond (ltb (length (m .points)) roomPoints) (good (withPoint i x y m)) (bad NoRoom)))
     (cond (ltb (length (m .curves)) roomCurves && ltb (length (m .points)) roomPoints)
-    (good (withPoint (length (m .curves)) x y (withCurves (m .curves ++ (id ∷ [])) m))) (bad Full))
+    (good (withPoint (length (m .curves)) x y (withCurves (m .curves ++ (id ∷ [])) m))) (bad NoRoom))
 
 unfoldable pub curveStep : List Name → Network → Read Network
-curveStep fs m =
-    onTook (nameFrom fs) (λ id fs.
-    onTook (numberFrom fs) (λ x fs.
-    onTook (numberFrom fs) (λ y fs.
-    addPoint id x y m)))
+curveStep fs m = onRead (pairOf fs) (λ p. addPoint (p .id) (p .x) (p .y) m)
 
 -- ---- "Pattern: id and any count of multipliers, none included; all or nothing."
 unfoldable pub multipliersOf : List Name → Read (List Float)
 multipliersOf [] = good []
 multipliersOf (f ∷ fs) = onTook (asNumber (numberOf (f .letters)) fs) (λ x rest. onRead (multipliersOf fs) (λ xs. good (x ∷ xs)))
+
+pub record PatternFields : Type 0 where
+  pub id : Name
+  pub values : List Float
+
+unfoldable pub patternOf : List Name → Read PatternFields
+patternOf fs =
+    onTook (nameFrom fs) (λ id fs.
+    onRead (multipliersOf fs) (λ values.
+    good (record { id = id; values = values })))
 
 abbrev pub multiplierOf : ℕ → Float → Multiplier
 multiplierOf i x = record { pattern = i; value = x }
@@ -66,17 +72,26 @@ fitting m xs = leb (length (m .multipliers) + length xs) roomMultipliers
 -- a pattern that is there goes on, another is added; 23 where it does not fit
 unfoldable pub addPattern : Name → List Float → Network → Read Network
 addPattern id xs m =
-    onFound (lookup (m .patterns) (id .letters)) (λ i. cond (fitting m xs) (good (withValues i xs m)) (bad Full))
+    onFound (lookup (m .patterns) (id .letters)) (λ i. cond (fitting m xs) (good (withValues i xs m)) (bad NoRoom))
     (cond (ltb (length (m .patterns)) roomPatterns && fitting m xs)
-    (good (withValues (length (m .patterns)) xs (withPatterns (m .patterns ++ (id ∷ [])) m))) (bad Full))
+    (good (withValues (length (m .patterns)) xs (withPatterns (m .patterns ++ (id ∷ [])) m))) (bad NoRoom))
 
 unfoldable pub patternStep : List Name → Network → Read Network
-patternStep fs m =
-    onTook (nameFrom fs) (λ id fs.
-    onRead (multipliersOf fs) (λ xs.
-    addPattern id xs m))
+patternStep fs m = onRead (patternOf fs) (λ p. addPattern (p .id) (p .values) m)
 
 -- ---- "A junction's first demand line replaces its demands; its room is used again."
+pub record DemandFields : Type 0 where
+  pub id : Name
+  pub base : Float
+  pub pattern : Option Name
+
+unfoldable pub demandOf : List Name → Read DemandFields
+demandOf fs =
+    onTook (nameFrom fs) (λ id fs.
+    onTook (numberFrom fs) (λ base fs.
+    onTook (optionalFrom fs) (λ pattern fs.
+    good (record { id = id; base = base; pattern = pattern }))))
+
 -- the place of the demand of junction number i's own line, if it stands still; the demands start at number k
 unfoldable pub ownFrom : ℕ → ℕ → List Demand → Found
 ownFrom k i [] = Nowhere
@@ -88,7 +103,7 @@ demandAt i x p = record { node = i; own = false; base = x; pattern = p; index = 
 unfoldable pub addDemand : ℕ → Float → Option Name → Network → Read Network
 addDemand i x p m =
     onFound (ownFrom 0 i (m .demands)) (λ k. good (withDemands (set (m .demands) k (demandAt i x p)) m))
-    (cond (ltb (length (m .demands)) roomDemands) (good (withDemands (m .demands ++ (demandAt i x p ∷ [])) m)) (bad Full))
+    (cond (ltb (length (m .demands)) roomDemands) (good (withDemands (m .demands ++ (demandAt i x p ∷ [])) m)) (bad NoRoom))
 
 -- 4 where there is no such node, 5 where it is no junction
 unfoldable pub setDemand : Name → Float → Option Name → Network → Read Network
@@ -98,11 +113,7 @@ setDemand id x p m =
     (bad NotFound)
 
 unfoldable pub demandStep : List Name → Network → Read Network
-demandStep fs m =
-    onTook (nameFrom fs) (λ id fs.
-    onTook (numberFrom fs) (λ x fs.
-    onTook (optionalFrom fs) (λ pattern fs.
-    setDemand id x pattern m)))
+demandStep fs m = onRead (demandOf fs) (λ d. setDemand (d .id) (d .base) (d .pattern) m)
 
 -- ---- "`resolve_pattern_indices` stays and runs only once the text is read to its end": the place of each pattern that is named
 abbrev pub placeIn : Found → Option ℕ

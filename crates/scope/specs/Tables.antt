@@ -20,13 +20,14 @@ use Rattle.scope.specs.declared.NodeAttribute.the-variants as node
 use Rattle.scope.specs.declared.TankAttribute.the-variants as tankHas
 use Rattle.scope.specs.declared.LinkAttribute.the-variants as link
 use Rattle.scope.specs.declared.Comparison.{Comparison}
-use Rattle.scope.specs.declared.Comparison.the-variants.{Equal, Differs, Above, Below, AtLeast, AtMost}
+use Rattle.scope.specs.declared.Comparison.the-variants.{Equal, NotEqual, Above, Below, AtLeast, AtMost}
 use Rattle.scope.specs.declared.Operator.{Operator}
 use Rattle.scope.specs.declared.Operator.the-variants.{And, Or}
 use Rattle.scope.specs.declared.Value.{Value}
 use Rattle.scope.specs.declared.Value.the-variants.{Number, Status}
 use Rattle.scope.specs.declared.Counts.{Counts}
 use Rattle.scope.specs.Records.{Network, Node, NodeKind, junction, reservoir, tank, Place, Link, LinkKind, pipe, pump, valve, Point, Multiplier, Demand, Rule, Clause, condition, action, zeroF, countsOf}
+use Rattle.scope.specs.Layout.{roomSlots, nodesLong, linksLong, curvesLong, pointsLong, patternsLong, multipliersLong, demandsLong, timesLong, rulesLong, clausesLong, nodeSlotsLong, linkSlotsLong, curveSlotsLong, patternSlotsLong, demandSlotsLong, nodeNumbersLong, linkNumbersLong, pointNumbersLong, multiplierNumbersLong, demandNumbersLong, clauseNumbersLong}
 
 -- ---- regions
 unfoldable pub flat : {A R : Type 0} → (R → List A) → List R → List A
@@ -94,20 +95,20 @@ typeNo Pcv = 7
 abbrev pub targetNo : Target → ℕ
 targetNo (target.System system.Demand) = 1
 targetNo (target.System system.Time) = 2
-targetNo (target.System system.ClockTime) = 3
+targetNo (target.System system.Clocktime) = 3
 targetNo (target.Node node.Demand) = 4
 targetNo (target.Node node.Head) = 5
 targetNo (target.Node node.Pressure) = 6
 targetNo (target.Tank tankHas.Level) = 7
-targetNo (target.Tank tankHas.FillTime) = 8
-targetNo (target.Tank tankHas.DrainTime) = 9
+targetNo (target.Tank tankHas.Filltime) = 8
+targetNo (target.Tank tankHas.Draintime) = 9
 targetNo (target.Link link.Flow) = 10
 targetNo (target.Link link.Status) = 11
 targetNo (target.Link link.Setting) = 12
 
 abbrev pub comparisonNo : Comparison → ℕ
 comparisonNo Equal = 1
-comparisonNo Differs = 2
+comparisonNo NotEqual = 2
 comparisonNo Above = 3
 comparisonNo Below = 4
 comparisonNo AtLeast = 5
@@ -219,7 +220,7 @@ slots slot n rs = slotsFrom slot 0 rs (replicate n 0)
 
 -- the slot of a node, a link, a curve or a pattern is by the key of its name, a demand's by its junction; rules have none
 abbrev pub slotOf : ℕ → ℕ
-slotOf key = key % 615
+slotOf key = key % roomSlots
 
 abbrev pub idSlot : Name → ℕ
 idSlot n = slotOf (keyOf (n .letters))
@@ -231,47 +232,37 @@ abbrev pub linkSlot : Link → ℕ
 linkSlot l = idSlot (l .id)
 
 abbrev pub demandSlot : Demand → ℕ
-demandSlot d = d .node % 256
+demandSlot d = d .node % demandSlotsLong
 
 -- ---- the regions, and the two tables
 unfoldable pub wordBlocks : Network → List (List ℕ)
 wordBlocks m =
-    region nodeWords 0 2048 (m .nodes)
-    ∷ region linkWords 0 2304 (m .links)
-    ∷ region idWords 0 192 (m .curves)
-    ∷ region pointWords 0 1024 (m .points)
-    ∷ region idWords 0 192 (m .patterns)
-    ∷ region multiplierWords 0 2048 (m .multipliers)
-    ∷ region demandWords 0 2560 (m .demands)
-    ∷ region countWords 0 12 (m .times)
-    ∷ region ruleWords 0 448 (m .rules)
-    ∷ region clauseWords 0 3584 (m .clauses)
-    ∷ slots nodeSlot 615 (m .nodes)
-    ∷ slots linkSlot 615 (m .links)
-    ∷ slots idSlot 615 (m .curves)
-    ∷ slots idSlot 615 (m .patterns)
-    ∷ slots demandSlot 256 (m .demands)
+    region nodeWords 0 nodesLong (m .nodes)
+    ∷ region linkWords 0 linksLong (m .links)
+    ∷ region idWords 0 curvesLong (m .curves)
+    ∷ region pointWords 0 pointsLong (m .points)
+    ∷ region idWords 0 patternsLong (m .patterns)
+    ∷ region multiplierWords 0 multipliersLong (m .multipliers)
+    ∷ region demandWords 0 demandsLong (m .demands)
+    ∷ region countWords 0 timesLong (m .times)
+    ∷ region ruleWords 0 rulesLong (m .rules)
+    ∷ region clauseWords 0 clausesLong (m .clauses)
+    ∷ slots nodeSlot nodeSlotsLong (m .nodes)
+    ∷ slots linkSlot linkSlotsLong (m .links)
+    ∷ slots idSlot curveSlotsLong (m .curves)
+    ∷ slots idSlot patternSlotsLong (m .patterns)
+    ∷ slots demandSlot demandSlotsLong (m .demands)
     ∷ []
 
 unfoldable pub numberBlocks : Network → List (List Float)
 numberBlocks m =
-    region nodeNumbers zeroF 2048 (m .nodes)
-    ∷ region linkNumbers zeroF 1024 (m .links)
-    ∷ region pointNumbers zeroF 2048 (m .points)
-    ∷ region multiplierNumbers zeroF 2048 (m .multipliers)
-    ∷ region demandNumbers zeroF 512 (m .demands)
-    ∷ region clauseNumbers zeroF 512 (m .clauses)
+    region nodeNumbers zeroF nodeNumbersLong (m .nodes)
+    ∷ region linkNumbers zeroF linkNumbersLong (m .links)
+    ∷ region pointNumbers zeroF pointNumbersLong (m .points)
+    ∷ region multiplierNumbers zeroF multiplierNumbersLong (m .multipliers)
+    ∷ region demandNumbers zeroF demandNumbersLong (m .demands)
+    ∷ region clauseNumbers zeroF clauseNumbersLong (m .clauses)
     ∷ []
-
--- how long the regions are together, and each table
-abbrev pub recordWords : ℕ
-recordWords = 17128
-
-abbrev pub roomWords : ℕ
-roomWords = 17137
-
-abbrev pub roomNumbers : ℕ
-roomNumbers = 8192
 
 abbrev pub tallyWords : Counts → List ℕ
 tallyWords c =

@@ -16,7 +16,7 @@ use Rattle.clock.specs.declared.Time.the-variants as time
 use Rattle.fields.specs.Fields.{Name, lettersOr, rest}
 use Rattle.letters.specs.Words.{same}
 use Rattle.scope.specs.declared.Reason.{Reason}
-use Rattle.scope.specs.declared.Reason.the-variants.{Missing, Malformed, Unknown, Beyond}
+use Rattle.scope.specs.declared.Reason.the-variants.{Missing, Malformed, UnknownWord, BeyondReach}
 use Rattle.scope.specs.declared.Found.{Found}
 use Rattle.scope.specs.declared.Found.the-variants.{At, Nowhere}
 use Rattle.scope.specs.Spelling.{wordTrue, wordFalse}
@@ -57,7 +57,7 @@ optionalFrom (f ∷ fs) = took (some f) fs
 abbrev pub asNumber : N.Number → List Name → Took Float
 asNumber (number.Value x) fs = took x fs
 asNumber number.Malformed fs = refused Malformed
-asNumber number.Beyond fs = refused Beyond
+asNumber number.Beyond fs = refused BeyondReach
 
 -- a number that must be there
 abbrev pub numberFrom : List Name → Took Float
@@ -72,7 +72,7 @@ numberOr other fs = asNumber (numberOf (lettersOr other fs)) (rest fs)
 abbrev pub asSwallowed : Float → N.Number → List Name → Took Float
 asSwallowed d (number.Value x) fs = took x fs
 asSwallowed d number.Malformed fs = took d fs
-asSwallowed d number.Beyond fs = refused Beyond
+asSwallowed d number.Beyond fs = refused BeyondReach
 
 abbrev pub swallowedFrom : Float → List Name → Took Float
 swallowedFrom d [] = took d []
@@ -83,6 +83,19 @@ abbrev pub isNumber : N.Number → Bool
 isNumber (number.Value x) = true
 isNumber number.Malformed = false
 isNumber number.Beyond = true
+
+-- ---- an id and two numbers, x and y: a line of CURVES and a line of COORDINATES
+pub record PairFields : Type 0 where
+  pub id : Name
+  pub x : Float
+  pub y : Float
+
+unfoldable pub pairOf : List Name → Read PairFields
+pairOf fs =
+    onTook (nameFrom fs) (λ id fs.
+    onTook (numberFrom fs) (λ x fs.
+    onTook (numberFrom fs) (λ y fs.
+    good (record { id = id; x = x; y = y }))))
 
 -- ---- counts and times
 abbrev pub asCount : C.Count → Read ℕ
@@ -96,8 +109,8 @@ countFrom (f ∷ fs) = asCount (countOf (f .letters))
 abbrev pub asTime : T.Time → Read ℕ
 asTime (time.Seconds n) = good n
 asTime time.Malformed = bad Malformed
-asTime time.Beyond = bad Beyond
-asTime time.UnknownUnit = bad Unknown
+asTime time.Beyond = bad BeyondReach
+asTime time.UnknownUnit = bad UnknownWord
 
 -- a time, with its unit where one follows
 abbrev pub timeAt : Name → List Name → Read ℕ

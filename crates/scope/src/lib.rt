@@ -27,16 +27,25 @@ pub enum Reason {
     Used,
     NotFound,
     WrongKind,
-    Falling,
-    Unknown,
+    XFalls,
+    UnknownWord,
     NoCondition,
     NoAction,
     NoId,
     TooLong,
     HighByte,
-    Beyond,
-    Full,
+    BeyondReach,
+    NoRoom,
     SmallTable,
+}
+
+// The records that are looked up by their names.
+pub enum Kind {
+    Nodes,
+    Links,
+    Curves,
+    Patterns,
+    Rules,
 }
 
 // What a name's lookup gives: the first place in its table.
@@ -61,6 +70,34 @@ pub enum PipeStatus {
     Open,
     Closed,
     CheckValve,
+}
+
+pub struct Pipe {
+    pub long: f64,
+    pub diameter: f64,
+    pub roughness: f64,
+    pub minor: f64,
+    pub status: PipeStatus,
+}
+
+pub struct Pump {
+    pub speed: f64,
+    pub head: Field,
+    pub power: f64,
+}
+
+pub struct Valve {
+    pub valve_type: ValveType,
+    pub diameter: f64,
+    pub setting: f64,
+    pub minor: f64,
+    pub curve: Field,
+}
+
+pub enum LinkKind {
+    Pipe(Pipe),
+    Pump(Pump),
+    Valve(Valve),
 }
 
 pub enum LinkStatus {
@@ -93,7 +130,7 @@ pub enum TimeOption {
 pub enum SystemAttribute {
     Demand,
     Time,
-    ClockTime,
+    Clocktime,
 }
 
 pub enum NodeAttribute {
@@ -104,8 +141,8 @@ pub enum NodeAttribute {
 
 pub enum TankAttribute {
     Level,
-    FillTime,
-    DrainTime,
+    Filltime,
+    Draintime,
 }
 
 pub enum LinkAttribute {
@@ -124,7 +161,7 @@ pub enum Target {
 
 pub enum Comparison {
     Equal,
-    Differs,
+    NotEqual,
     Above,
     Below,
     AtLeast,

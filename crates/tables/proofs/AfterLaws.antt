@@ -7,7 +7,7 @@ use lib.ListN.{length, take, drop, length-append, length-take, length-drop}
 use lib.Ieee.{Float}
 use Rattle.scope.specs.Records.{Network, countsOf}
 use Rattle.scope.specs.Values.{Read, good, bad}
-use Rattle.scope.specs.Tables.{recordWords, roomNumbers}
+use Rattle.scope.specs.Layout.{recordWords, roomNumbers}
 use Rattle.scope.specs.declared.Counts.{Counts}
 use Rattle.scope.specs.declared.Reason.{Reason}
 use Rattle.tables.specs.Table.{splice}

@@ -8,11 +8,12 @@ use mathlib.Core.Option.{Option, none, some}
 use lib.ListN.{length, drop, replicate, length-append, replicate-append-replicate}
 use lib.Ieee.{Float}
 use Rattle.scope.specs.Records.{Network, zeroF, noNetwork, countsOf}
-use Rattle.scope.specs.Tables.{flat, region, blocks, recordWords, roomNumbers, idWords, countWords, nodeWords, nodeNumbers, linkWords, linkNumbers, pointWords, pointNumbers, multiplierWords, multiplierNumbers, demandWords, demandNumbers, ruleWords, clauseWords, clauseNumbers, slotsFrom, slots, idSlot, nodeSlot, linkSlot, demandSlot, wordBlocks, numberBlocks}
+use Rattle.scope.specs.Tables.{flat, region, blocks, idWords, countWords, nodeWords, nodeNumbers, linkWords, linkNumbers, pointWords, pointNumbers, multiplierWords, multiplierNumbers, demandWords, demandNumbers, ruleWords, clauseWords, clauseNumbers, slotsFrom, slots, idSlot, nodeSlot, linkSlot, demandSlot, wordBlocks, numberBlocks}
+use Rattle.scope.specs.Layout.{nodesLong, linksLong, curvesLong, pointsLong, patternsLong, multipliersLong, demandsLong, timesLong, rulesLong, clausesLong, nodeSlotsLong, linkSlotsLong, curveSlotsLong, patternSlotsLong, demandSlotsLong, nodeNumbersLong, linkNumbersLong, pointNumbersLong, multiplierNumbersLong, demandNumbersLong, clauseNumbersLong, recordWords, roomNumbers}
 use Rattle.tables.specs.Holding.{Known, Words, Numbers, Holds}
 use Rattle.tables.proofs.SlotLaws.{zero-at}
 use Rattle.tables.proofs.BlockLaws.{sum}
-use Rattle.tables.proofs.SizeLaws.{word-sizes, number-sizes}
+use Rattle.tables.proofs.SizeLaws.{wordSizes, numberSizes, word-sizes, number-sizes}
 
 -- ---- lengths
 blocks-long : {A : Type 0} (bs : List (List A)) → length (blocks bs) ≡ sum (map length bs)
@@ -33,15 +34,21 @@ module _ {A : Type 0} (z : A) where
   unfolding region flat
   none-in enc n = rw sub-zero
 
-  one-more : {b : List A} (bs : List (List A)) (n k : ℕ) → b ≡ replicate n z → blocks bs ≡ replicate k z → blocks (b ∷ bs) ≡ replicate (n + k) z
-  unfolding flat
-  one-more bs n k e q = rw (e, q) (replicate-append-replicate n k z)
+  -- each block is as many zeros as the sizes say
+  abbrev Zeros : List (List A) → List ℕ → Type 0
+  Zeros [] [] = Unit
+  Zeros [] (n ∷ ns) = ⊥
+  Zeros (b ∷ bs) [] = ⊥
+  Zeros (b ∷ bs) (n ∷ ns) = (b ≡ replicate n z) × Zeros bs ns
 
-  no-more : blocks [] ≡ replicate 0 z
+  all-zeros : (bs : List (List A)) (ns : List ℕ) → Zeros bs ns → blocks bs ≡ replicate (sum ns) z
   unfolding flat
-  no-more = refl
+  all-zeros [] [] h = refl
+  all-zeros [] (n ∷ ns) h = absurd h
+  all-zeros (b ∷ bs) [] h = absurd h
+  all-zeros (b ∷ bs) (n ∷ ns) h = rw (h .0, all-zeros bs ns (h .1)) (replicate-append-replicate n (sum ns) z)
 
-times-none : region countWords 0 12 (replicate 6 none) ≡ replicate 12 0
+times-none : region countWords 0 timesLong (replicate 6 none) ≡ replicate timesLong 0
 unfolding region flat
 times-none = refl
 
@@ -52,31 +59,69 @@ none-slotted slot n = refl
 empty-words : blocks (wordBlocks noNetwork) ≡ replicate recordWords 0
 unfolding wordBlocks
 empty-words =
-    one-more 0 (drop 1 (wordBlocks noNetwork)) 2048 15080 (none-in 0 nodeWords 2048)
-    (one-more 0 (drop 2 (wordBlocks noNetwork)) 2304 12776 (none-in 0 linkWords 2304)
-    (one-more 0 (drop 3 (wordBlocks noNetwork)) 192 12584 (none-in 0 idWords 192)
-    (one-more 0 (drop 4 (wordBlocks noNetwork)) 1024 11560 (none-in 0 pointWords 1024)
-    (one-more 0 (drop 5 (wordBlocks noNetwork)) 192 11368 (none-in 0 idWords 192)
-    (one-more 0 (drop 6 (wordBlocks noNetwork)) 2048 9320 (none-in 0 multiplierWords 2048)
-    (one-more 0 (drop 7 (wordBlocks noNetwork)) 2560 6760 (none-in 0 demandWords 2560)
-    (one-more 0 (drop 8 (wordBlocks noNetwork)) 12 6748 times-none
-    (one-more 0 (drop 9 (wordBlocks noNetwork)) 448 6300 (none-in 0 ruleWords 448)
-    (one-more 0 (drop 10 (wordBlocks noNetwork)) 3584 2716 (none-in 0 clauseWords 3584)
-    (one-more 0 (drop 11 (wordBlocks noNetwork)) 615 2101 (none-slotted nodeSlot 615)
-    (one-more 0 (drop 12 (wordBlocks noNetwork)) 615 1486 (none-slotted linkSlot 615)
-    (one-more 0 (drop 13 (wordBlocks noNetwork)) 615 871 (none-slotted idSlot 615)
-    (one-more 0 (drop 14 (wordBlocks noNetwork)) 615 256 (none-slotted idSlot 615)
-    (one-more 0 (drop 15 (wordBlocks noNetwork)) 256 0 (none-slotted demandSlot 256) (no-more 0)))))))))))))))
+    all-zeros 0 (wordBlocks noNetwork) wordSizes (
+      none-in 0 nodeWords nodesLong,
+      (
+        none-in 0 linkWords linksLong,
+        (
+          none-in 0 idWords curvesLong,
+          (
+            none-in 0 pointWords pointsLong,
+            (
+              none-in 0 idWords patternsLong,
+              (
+                none-in 0 multiplierWords multipliersLong,
+                (
+                  none-in 0 demandWords demandsLong,
+                  (
+                    times-none,
+                    (
+                      none-in 0 ruleWords rulesLong,
+                      (
+                        none-in 0 clauseWords clausesLong,
+                        (
+                          none-slotted nodeSlot nodeSlotsLong,
+                          (
+                            none-slotted linkSlot linkSlotsLong,
+                            (
+                              none-slotted idSlot curveSlotsLong,
+                              (
+                                none-slotted idSlot patternSlotsLong,
+                                (none-slotted demandSlot demandSlotsLong, tt),
+                              ),
+                            ),
+                          ),
+                        ),
+                      ),
+                    ),
+                  ),
+                ),
+              ),
+            ),
+          ),
+        ),
+      ),
+    )
 
 empty-numbers : blocks (numberBlocks noNetwork) ≡ replicate roomNumbers zeroF
 unfolding numberBlocks
 empty-numbers =
-    one-more zeroF (drop 1 (numberBlocks noNetwork)) 2048 6144 (none-in zeroF nodeNumbers 2048)
-    (one-more zeroF (drop 2 (numberBlocks noNetwork)) 1024 5120 (none-in zeroF linkNumbers 1024)
-    (one-more zeroF (drop 3 (numberBlocks noNetwork)) 2048 3072 (none-in zeroF pointNumbers 2048)
-    (one-more zeroF (drop 4 (numberBlocks noNetwork)) 2048 1024 (none-in zeroF multiplierNumbers 2048)
-    (one-more zeroF (drop 5 (numberBlocks noNetwork)) 512 512 (none-in zeroF demandNumbers 512)
-    (one-more zeroF (drop 6 (numberBlocks noNetwork)) 512 0 (none-in zeroF clauseNumbers 512) (no-more zeroF))))))
+    all-zeros zeroF (numberBlocks noNetwork) numberSizes (
+      none-in zeroF nodeNumbers nodeNumbersLong,
+      (
+        none-in zeroF linkNumbers linkNumbersLong,
+        (
+          none-in zeroF pointNumbers pointNumbersLong,
+          (
+            none-in zeroF multiplierNumbers multiplierNumbersLong,
+            (
+              none-in zeroF demandNumbers demandNumbersLong,
+              (none-in zeroF clauseNumbers clauseNumbersLong, tt),
+            ),
+          ),
+        ),
+      ),
+    )
 
 none-known : (text : List ℕ) → Known text noNetwork
 unfolding slotsFrom
@@ -92,7 +137,7 @@ none-known text =
       times = refl;
       rules = record { bound = omega arith; fine = tt };
       clauses = record { bound = omega arith; fine = tt };
-      owned = record { first = λ k h. absurd (omega arith); beyond = λ h l. zero-at 256 h };
+      owned = record { first = λ k h. absurd (omega arith); beyond = λ h l. zero-at demandSlotsLong h };
     }
 
 pub empty : (text w : List ℕ) (f : List Float) → w ≡ replicate recordWords 0 → f ≡ replicate roomNumbers zeroF → Holds text noNetwork (countsOf noNetwork) w f

@@ -14,3 +14,5 @@ pub mod LookLaws
 pub mod WalkLaws
 pub mod StartLaws
 pub mod AfterLaws
+pub mod FindLaws
+pub mod RoomLaws

@@ -8,10 +8,9 @@ use lib.ListN.{length, getD}
 use Rattle.letters.specs.Words.{same}
 use Rattle.letters.proofs.WordLaws.{same-equal}
 use Rattle.fields.specs.Fields.{Name}
-use Rattle.scope.specs.Records.{Network, noName, noNode}
-use Rattle.scope.specs.Rules.{noLink}
+use Rattle.scope.specs.Records.{Network, noName, noNode, noLink}
 use Rattle.scope.specs.Tables.{keyOf, slots, slotOf, idSlot, nodeSlot, linkSlot, demandSlot}
-use Rattle.tables.specs.Layout.{nodesAt, linksAt, curvesAt, patternsAt, nodeSize, linkSize, idSize, nodeSlotsAt, linkSlotsAt, curveSlotsAt, patternSlotsAt, demandSlotsAt}
+use Rattle.scope.specs.Layout.{curveSlotsLong, demandSlotsLong, linkSlotsLong, nodeSlotsLong, patternSlotsLong, nodesAt, linksAt, curvesAt, patternsAt, nodesWidth, linksWidth, nodeSlotsAt, linkSlotsAt, curveSlotsAt, patternSlotsAt, demandSlotsAt, idKey, curvesWidth, patternsWidth}
 use Rattle.tables.specs.Holding.{Words, OtherNames, NotInSlot}
 use Rattle.tables.proofs.SlotLaws.{slots-first}
 use Rattle.tables.proofs.BlockLaws.{slot-word}
@@ -28,7 +27,7 @@ module _ {R : Type 0} (slot : R → ℕ) (n : ℕ) (rs : List R) (r0 : R) (w : L
       o j l (omega (arith, f .0, q)) (omega (arith, f .1, q))
 
   -- rows of names, whose slots are by their keys
-  named-before : (text : List ℕ) (base stride : ℕ) (name : List ℕ) (h b : ℕ) → h ≡ slotOf (keyOf name) → ((j : ℕ) → j < length rs → slotOf (getD w (base + j * stride + 2) 0) ≡ slot (getD rs j r0)) → b ≤ length rs
+  named-before : (text : List ℕ) (base stride : ℕ) (name : List ℕ) (h b : ℕ) → h ≡ slotOf (keyOf name) → ((j : ℕ) → j < length rs → slotOf (getD w (base + j * stride + idKey) 0) ≡ slot (getD rs j r0)) → b ≤ length rs
       → NotInSlot (getD w (at + h) 0) b → OtherNames text w base stride name b
   named-before text base stride name h b e keyed hb o j l x row = go (same (x .letters) name) refl
     where
@@ -36,31 +35,31 @@ module _ {R : Type 0} (slot : R → ℕ) (n : ℕ) (rs : List R) (r0 : R) (w : L
       go false q = refl
       go true q =
           let hj : j < length rs = omega arith in
-          let k : getD w (base + j * stride + 2) 0 ≡ keyOf name = row .key ∙ ap keyOf (same-equal (x .letters) name q) in
+          let k : getD w (base + j * stride + idKey) 0 ≡ keyOf name = row .key ∙ ap keyOf (same-equal (x .letters) name q) in
           absurd (not-before j h b hj (e ∙ ap slotOf (sym k) ∙ keyed j hj) o l)
 
 -- ---- the tables
 module _ {text : List ℕ} {m : Network} {w : List ℕ} (h : Words text m w) where
-  pub nodes-before : (name : List ℕ) (slot b : ℕ) → slot ≡ slotOf (keyOf name) → b ≤ length (m .nodes) → NotInSlot (getD w (nodeSlotsAt + slot) 0) b → OtherNames text w nodesAt nodeSize name b
+  pub nodes-before : (name : List ℕ) (slot b : ℕ) → slot ≡ slotOf (keyOf name) → b ≤ length (m .nodes) → NotInSlot (getD w (nodeSlotsAt + slot) 0) b → OtherNames text w nodesAt nodesWidth name b
   nodes-before name slot b e =
-      named-before nodeSlot 615 (m .nodes) noNode w nodeSlotsAt (slot-word (node-slots-lie (h .known)) (h .exact)) (λ r. omega arith) text nodesAt nodeSize name slot b e
-      (λ j hj. ap slotOf (node-word h j 2 noNode hj (omega arith)))
+      named-before nodeSlot nodeSlotsLong (m .nodes) noNode w nodeSlotsAt (slot-word (node-slots-lie (h .known)) (h .exact)) (λ r. omega arith) text nodesAt nodesWidth name slot b e
+      (λ j hj. ap slotOf (node-word h j idKey noNode hj (omega arith)))
 
-  pub links-before : (name : List ℕ) (slot b : ℕ) → slot ≡ slotOf (keyOf name) → b ≤ length (m .links) → NotInSlot (getD w (linkSlotsAt + slot) 0) b → OtherNames text w linksAt linkSize name b
+  pub links-before : (name : List ℕ) (slot b : ℕ) → slot ≡ slotOf (keyOf name) → b ≤ length (m .links) → NotInSlot (getD w (linkSlotsAt + slot) 0) b → OtherNames text w linksAt linksWidth name b
   links-before name slot b e =
-      named-before linkSlot 615 (m .links) noLink w linkSlotsAt (slot-word (link-slots-lie (h .known)) (h .exact)) (λ r. omega arith) text linksAt linkSize name slot b e
-      (λ j hj. ap slotOf (link-word h j 2 noLink hj (omega arith)))
+      named-before linkSlot linkSlotsLong (m .links) noLink w linkSlotsAt (slot-word (link-slots-lie (h .known)) (h .exact)) (λ r. omega arith) text linksAt linksWidth name slot b e
+      (λ j hj. ap slotOf (link-word h j idKey noLink hj (omega arith)))
 
-  pub curves-before : (name : List ℕ) (slot b : ℕ) → slot ≡ slotOf (keyOf name) → b ≤ length (m .curves) → NotInSlot (getD w (curveSlotsAt + slot) 0) b → OtherNames text w curvesAt idSize name b
+  pub curves-before : (name : List ℕ) (slot b : ℕ) → slot ≡ slotOf (keyOf name) → b ≤ length (m .curves) → NotInSlot (getD w (curveSlotsAt + slot) 0) b → OtherNames text w curvesAt curvesWidth name b
   curves-before name slot b e =
-      named-before idSlot 615 (m .curves) noName w curveSlotsAt (slot-word (curve-slots-lie (h .known)) (h .exact)) (λ r. omega arith) text curvesAt idSize name slot b e
-      (λ j hj. ap slotOf (curve-word h j 2 noName hj (omega arith)))
+      named-before idSlot curveSlotsLong (m .curves) noName w curveSlotsAt (slot-word (curve-slots-lie (h .known)) (h .exact)) (λ r. omega arith) text curvesAt curvesWidth name slot b e
+      (λ j hj. ap slotOf (curve-word h j idKey noName hj (omega arith)))
 
-  pub patterns-before : (name : List ℕ) (slot b : ℕ) → slot ≡ slotOf (keyOf name) → b ≤ length (m .patterns) → NotInSlot (getD w (patternSlotsAt + slot) 0) b → OtherNames text w patternsAt idSize name b
+  pub patterns-before : (name : List ℕ) (slot b : ℕ) → slot ≡ slotOf (keyOf name) → b ≤ length (m .patterns) → NotInSlot (getD w (patternSlotsAt + slot) 0) b → OtherNames text w patternsAt patternsWidth name b
   patterns-before name slot b e =
-      named-before idSlot 615 (m .patterns) noName w patternSlotsAt (slot-word (pattern-slots-lie (h .known)) (h .exact)) (λ r. omega arith) text patternsAt idSize name slot b e
-      (λ j hj. ap slotOf (pattern-word h j 2 noName hj (omega arith)))
+      named-before idSlot patternSlotsLong (m .patterns) noName w patternSlotsAt (slot-word (pattern-slots-lie (h .known)) (h .exact)) (λ r. omega arith) text patternsAt patternsWidth name slot b e
+      (λ j hj. ap slotOf (pattern-word h j idKey noName hj (omega arith)))
 
   -- what the slot of a junction holds
-  pub demand-slot : (i : ℕ) → i < 256 → getD w (demandSlotsAt + i) 0 ≡ getD (slots demandSlot 256 (m .demands)) i 0
+  pub demand-slot : (i : ℕ) → i < demandSlotsLong → getD w (demandSlotsAt + i) 0 ≡ getD (slots demandSlot demandSlotsLong (m .demands)) i 0
   demand-slot = slot-word (demand-slots-lie (h .known)) (h .exact)

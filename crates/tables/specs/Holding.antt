@@ -9,9 +9,10 @@ use lib.Ieee.{Float}
 use Rattle.letters.specs.Words.{same}
 use Rattle.fields.specs.Fields.{Name, part}
 pub use Rattle.fields.specs.Fields.{optIn, MayFit}
-use Rattle.scope.specs.Records.{Network, Node, NodeKind, junction, reservoir, tank, Link, LinkKind, pipe, pump, valve, Point, Multiplier, Demand, Rule, Clause, zeroF, countsOf, noName}
+use Rattle.scope.specs.Records.{Network, Node, NodeKind, junction, reservoir, tank, Link, LinkKind, pipe, pump, valve, Point, Multiplier, Demand, Rule, Clause, countsOf, noName, noDemand}
 use Rattle.scope.specs.Values.{Read, good, bad}
 use Rattle.scope.specs.Sections.{roomNodes, roomLinks, roomCurves, roomPoints, roomPatterns, roomMultipliers, roomDemands, roomRules, roomClauses}
+use Rattle.scope.specs.Layout.{idLength, idKey, roomTimes, demandSlotsLong}
 use Rattle.scope.specs.Tables.{keyOf, slots, demandSlot, blocks, wordBlocks, numberBlocks}
 use Rattle.scope.specs.declared.Counts.{Counts}
 use Rattle.scope.specs.declared.Found.{Found}
@@ -67,14 +68,10 @@ RuleFine text r = Sits text (r .id)
 abbrev pub ClauseFine : Clause → Type 0
 ClauseFine c = Unit
 
--- what stands past the end of the demands
-abbrev pub noDemand : Demand
-noDemand = record { node = 0; own = false; base = zeroF; pattern = none; index = none }
-
 -- among n nodes and their demands: a demand of a junction's own line is the first in its slot, and no slot is taken for a node that is not there
 pub record Owned (n : ℕ) (ds : List Demand) : Type 0 where
-  pub first : (k : ℕ) → k < length ds → getD ds k noDemand .own ≡ true → getD (slots demandSlot 256 ds) (demandSlot (getD ds k noDemand)) 0 ≡ suc k
-  pub beyond : (h : ℕ) → n ≤ h → getD (slots demandSlot 256 ds) h 0 ≡ 0
+  pub first : (k : ℕ) → k < length ds → getD ds k noDemand .own ≡ true → getD (slots demandSlot demandSlotsLong ds) (demandSlot (getD ds k noDemand)) 0 ≡ suc k
+  pub beyond : (h : ℕ) → n ≤ h → getD (slots demandSlot demandSlotsLong ds) h 0 ≡ 0
 
 pub record Known (text : List ℕ) (m : Network) : Type 0 where
   pub nodes : Part (NodeFine text) roomNodes (m .nodes)
@@ -84,7 +81,7 @@ pub record Known (text : List ℕ) (m : Network) : Type 0 where
   pub patterns : Part (Sits text) roomPatterns (m .patterns)
   pub multipliers : Part MultiplierFine roomMultipliers (m .multipliers)
   pub demands : Part (DemandFine text) roomDemands (m .demands)
-  pub times : length (m .times) ≡ 6
+  pub times : length (m .times) ≡ roomTimes
   pub rules : Part (RuleFine text) roomRules (m .rules)
   pub clauses : Part ClauseFine roomClauses (m .clauses)
   pub owned : Owned (length (m .nodes)) (m .demands)
@@ -114,10 +111,10 @@ After text (bad n) r w f w′ f′ = (r ≡ Refused n) × (w′ ≡ w) × (f′ 
 
 -- ---- rows of names in the words: row i is at base + i * stride, and starts with the place, the length and the key of the i-th name
 pub record Row (text w : List ℕ) (at : ℕ) (n : Name) : Type 0 where
-  pub room : at + 2 < length w
+  pub room : at + idKey < length w
   pub place : getD w at 0 ≡ n .at
-  pub long : getD w (at + 1) 0 ≡ length (n .letters)
-  pub key : getD w (at + 2) 0 ≡ keyOf (n .letters)
+  pub long : getD w (at + idLength) 0 ≡ length (n .letters)
+  pub key : getD w (at + idKey) 0 ≡ keyOf (n .letters)
   pub sits : Sits text n
 
 abbrev pub Rows : List ℕ → List ℕ → ℕ → ℕ → List Name → Type 0
@@ -150,10 +147,6 @@ FirstInSlot v count b = 0 < v → v ≤ count → suc b ≡ v
 abbrev pub Below : ℕ → Found → Type 0
 Below n (At i) = i < n
 Below n Nowhere = Unit
-
--- what stands past the end of the rules
-abbrev pub noRule : Rule
-noRule = record { id = noName; priority = none; first = 0; count = 0 }
 
 abbrev pub isJunction : NodeKind → Bool
 isJunction (junction j) = true

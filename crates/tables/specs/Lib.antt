@@ -1,5 +1,6 @@
 -- What the contracts of this crate cite.
 pub mod Table
-pub mod Layout
 pub mod Holding
 pub mod Adding
+pub mod Finding
+pub mod Room

@@ -5,85 +5,282 @@ ghost use Prim.Native.Nat.{ℕ, _+_, _≤_, _<_};
 ghost use lib.ListN.{length, getD, take, replicate};
 ghost use Rattle.fields.specs.Fields.{Name, nameIn, part};
 ghost use Rattle.letters.specs.Words.{same};
-ghost use Rattle.scope.specs.Records.{Network, zeroF, lookup, nodeIds, linkIds, ruleIds, noNode};
-ghost use Rattle.scope.specs.Rules.{noLink, isPipe, isPump, isValve};
+ghost use Rattle.scope.specs.Records.{Network, zeroF, lookup, nodeIds, noNode, countsOf, recordsOf, idsOf, noLink};
+ghost use Rattle.scope.specs.Rules.{isPipe, isPump, isValve};
 ghost use Rattle.scope.specs.Series.{placeIn};
-ghost use Rattle.scope.specs.Tables.{recordWords, packed, keyOf, marked, slotOf, idWords, nameWords, flag, indexNo};
+ghost use Rattle.scope.specs.Tables.{packed, keyOf, marked, slotOf, idWords, nameWords, flag, indexNo};
+ghost use Rattle.scope.specs.Sections.{roomNodes, roomLinks};
+ghost use Rattle.scope.specs.Layout.{recordWords};
 ghost use Rattle.tables.specs.Table.{splice};
+ghost use Rattle.tables.specs.Room.{hasRoom, haveRoom};
+ghost use Rattle.tables.specs.Finding.{baseOf, widthOf, StartsAt};
 ghost use Rattle.tables.specs.Holding.{optIn, Words, Row, Rows, SomeRow, SomeRows, OtherNames, NotInSlot, FirstInSlot, Below, isJunction};
 use fields::Field;
 use fields::Span;
 use scope::Counts;
 use scope::Found;
+use scope::Kind;
 use scope::Reason;
 
-// ---- the layout: where each region starts, and how many places a record of it takes
+// ---- the layout (docs/LAYOUT.md): a place is the place before it plus what stands there. Nothing else says so but crates/scope/specs/Layout.antt, and the program
+// `layout` proves that the two agree.
 
-pub const NODES: usize = 0;
+// How many records of each kind there is room for, and how long a text may be.
 
-pub const LINKS: usize = 2048;
+pub const TEXT_ROOM: usize = 65536;
 
-pub const CURVES: usize = 4352;
+pub const LINES_ROOM: usize = 65536;
 
-pub const POINTS: usize = 4544;
+pub const NODES_MOST: usize = 256;
 
-pub const PATTERNS: usize = 5568;
+pub const LINKS_MOST: usize = 256;
 
-pub const MULTIPLIERS: usize = 5760;
+pub const CURVES_MOST: usize = 64;
 
-pub const DEMANDS: usize = 7808;
+pub const POINTS_MOST: usize = 1024;
 
-pub const TIMES: usize = 10368;
+pub const PATTERNS_MOST: usize = 64;
 
-pub const RULES: usize = 10380;
+pub const MULTIPLIERS_MOST: usize = 2048;
 
-pub const CLAUSES: usize = 10828;
+pub const DEMANDS_MOST: usize = 512;
 
-pub const NODE_SLOTS: usize = 14412;
+pub const TIMES_MOST: usize = 6;
 
-pub const LINK_SLOTS: usize = 15027;
+pub const RULES_MOST: usize = 64;
 
-pub const CURVE_SLOTS: usize = 15642;
+pub const CLAUSES_MOST: usize = 512;
 
-pub const PATTERN_SLOTS: usize = 16257;
+// How many slots each kind has that is looked up by name; a demand has its junction's.
+pub const SLOTS_MOST: usize = 615;
 
-pub const DEMAND_SLOTS: usize = 16872;
+pub const DEMAND_SLOTS_MOST: usize = NODES_MOST;
 
-pub const RECORD_WORDS: usize = 17128;
+// An id: the place of the name, its length, its key.
+pub const ID_PLACE: usize = 0;
 
-pub const NODE_WORDS: usize = 8;
+pub const ID_LENGTH: usize = ID_PLACE + 1;
 
-pub const LINK_WORDS: usize = 9;
+pub const ID_KEY: usize = ID_LENGTH + 1;
 
-pub const ID_WORDS: usize = 3;
+pub const ID_WIDTH: usize = ID_KEY + 1;
 
-pub const DEMAND_WORDS: usize = 5;
+// A name that may be missing: place and length.
+pub const NAME_PLACE: usize = 0;
 
-pub const TIME_WORDS: usize = 2;
+pub const NAME_LENGTH: usize = NAME_PLACE + 1;
 
-pub const RULE_WORDS: usize = 7;
+pub const NAME_WIDTH: usize = NAME_LENGTH + 1;
 
-pub const CLAUSE_WORDS: usize = 7;
+// The words of a node: its id, then these.
+pub const NODE_KIND: usize = ID_WIDTH;
 
-pub const NODE_NUMBERS: usize = 0;
+pub const NODE_NAME: usize = NODE_KIND + 1;
 
-pub const LINK_NUMBERS: usize = 2048;
+pub const NODE_DETAIL: usize = NODE_NAME + NAME_WIDTH;
 
-pub const POINT_NUMBERS: usize = 3072;
+pub const NODE_PLACED: usize = NODE_DETAIL + 1;
 
-pub const MULTIPLIER_NUMBERS: usize = 5120;
+pub const NODES_WIDTH: usize = NODE_PLACED + 1;
 
-pub const DEMAND_NUMBERS: usize = 7168;
+// The words of a link: its id, then these.
+pub const LINK_START: usize = ID_WIDTH;
 
-pub const CLAUSE_NUMBERS: usize = 7680;
+pub const LINK_END: usize = LINK_START + 1;
 
-pub const NUMBERS: usize = 8192;
+pub const LINK_KIND: usize = LINK_END + 1;
 
-pub const NUMBERS_OF_NODE: usize = 8;
+pub const LINK_DETAIL: usize = LINK_KIND + 1;
 
-pub const NUMBERS_OF_LINK: usize = 4;
+pub const LINK_NAME: usize = LINK_DETAIL + 1;
 
-pub const NUMBERS_OF_POINT: usize = 2;
+pub const LINKS_WIDTH: usize = LINK_NAME + NAME_WIDTH;
+
+// A curve and a pattern have their ids, a point and a multiplier the place of their curve or pattern.
+pub const CURVES_WIDTH: usize = ID_WIDTH;
+
+pub const POINTS_WIDTH: usize = 1;
+
+pub const PATTERNS_WIDTH: usize = ID_WIDTH;
+
+pub const MULTIPLIERS_WIDTH: usize = 1;
+
+// The words of a demand.
+pub const DEMAND_NODE: usize = 0;
+
+pub const DEMAND_OWN: usize = DEMAND_NODE + 1;
+
+pub const DEMAND_NAME: usize = DEMAND_OWN + 1;
+
+pub const DEMAND_INDEX: usize = DEMAND_NAME + NAME_WIDTH;
+
+pub const DEMANDS_WIDTH: usize = DEMAND_INDEX + 1;
+
+// The words of a time.
+pub const TIME_SET: usize = 0;
+
+pub const TIME_SECONDS: usize = TIME_SET + 1;
+
+pub const TIMES_WIDTH: usize = TIME_SECONDS + 1;
+
+// The words of a rule: its id, then these.
+pub const RULE_FIRST: usize = ID_WIDTH;
+
+pub const RULE_COUNT: usize = RULE_FIRST + 1;
+
+pub const RULE_PRIORITY_SET: usize = RULE_COUNT + 1;
+
+pub const RULE_PRIORITY: usize = RULE_PRIORITY_SET + 1;
+
+pub const RULES_WIDTH: usize = RULE_PRIORITY + 1;
+
+// The words of a clause, which is a condition or an action.
+pub const CLAUSE_KIND: usize = 0;
+
+pub const CONDITION_OPERATOR: usize = CLAUSE_KIND + 1;
+
+pub const CONDITION_TARGET: usize = CONDITION_OPERATOR + 1;
+
+pub const CONDITION_COMPARISON: usize = CONDITION_TARGET + 1;
+
+pub const ACTION_ELSE: usize = CLAUSE_KIND + 1;
+
+pub const ACTION_LINK: usize = ACTION_ELSE + 1;
+
+pub const CLAUSE_STATUS: usize = CONDITION_COMPARISON + 1;
+
+pub const CLAUSE_NAME: usize = CLAUSE_STATUS + 1;
+
+pub const CLAUSES_WIDTH: usize = CLAUSE_NAME + NAME_WIDTH;
+
+// The numbers of a node, by its kind.
+pub const NODE_ELEVATION: usize = 0;
+
+pub const JUNCTION_EMITTER: usize = NODE_ELEVATION + 1;
+
+pub const TANK_INITIAL_LEVEL: usize = NODE_ELEVATION + 1;
+
+pub const TANK_MINIMUM_LEVEL: usize = TANK_INITIAL_LEVEL + 1;
+
+pub const TANK_MAXIMUM_LEVEL: usize = TANK_MINIMUM_LEVEL + 1;
+
+pub const TANK_DIAMETER: usize = TANK_MAXIMUM_LEVEL + 1;
+
+pub const TANK_MINIMUM_VOLUME: usize = TANK_DIAMETER + 1;
+
+pub const NODE_X: usize = TANK_MINIMUM_VOLUME + 1;
+
+pub const NODE_Y: usize = NODE_X + 1;
+
+pub const NODE_NUMBERS_WIDTH: usize = NODE_Y + 1;
+
+// The numbers of a link, by its kind.
+pub const PIPE_LENGTH: usize = 0;
+
+pub const PIPE_DIAMETER: usize = PIPE_LENGTH + 1;
+
+pub const PIPE_ROUGHNESS: usize = PIPE_DIAMETER + 1;
+
+pub const PIPE_MINOR_LOSS: usize = PIPE_ROUGHNESS + 1;
+
+pub const PUMP_SPEED: usize = 0;
+
+pub const PUMP_POWER: usize = PUMP_SPEED + 1;
+
+pub const VALVE_SETTING: usize = 0;
+
+pub const VALVE_DIAMETER: usize = VALVE_SETTING + 1;
+
+pub const VALVE_MINOR_LOSS: usize = PIPE_MINOR_LOSS;
+
+pub const LINK_NUMBERS_WIDTH: usize = PIPE_MINOR_LOSS + 1;
+
+// The numbers of a point, and those of which each record has one.
+pub const POINT_X: usize = 0;
+
+pub const POINT_Y: usize = POINT_X + 1;
+
+pub const POINT_NUMBERS_WIDTH: usize = POINT_Y + 1;
+
+pub const MULTIPLIER_NUMBERS_WIDTH: usize = 1;
+
+pub const DEMAND_NUMBERS_WIDTH: usize = 1;
+
+pub const CLAUSE_NUMBERS_WIDTH: usize = 1;
+
+// Where each region of the words starts: the records, then the slots, then the counts.
+pub const NODES_AT: usize = 0;
+
+pub const LINKS_AT: usize = NODES_AT + NODES_MOST * NODES_WIDTH;
+
+pub const CURVES_AT: usize = LINKS_AT + LINKS_MOST * LINKS_WIDTH;
+
+pub const POINTS_AT: usize = CURVES_AT + CURVES_MOST * CURVES_WIDTH;
+
+pub const PATTERNS_AT: usize = POINTS_AT + POINTS_MOST * POINTS_WIDTH;
+
+pub const MULTIPLIERS_AT: usize = PATTERNS_AT + PATTERNS_MOST * PATTERNS_WIDTH;
+
+pub const DEMANDS_AT: usize = MULTIPLIERS_AT + MULTIPLIERS_MOST * MULTIPLIERS_WIDTH;
+
+pub const TIMES_AT: usize = DEMANDS_AT + DEMANDS_MOST * DEMANDS_WIDTH;
+
+pub const RULES_AT: usize = TIMES_AT + TIMES_MOST * TIMES_WIDTH;
+
+pub const CLAUSES_AT: usize = RULES_AT + RULES_MOST * RULES_WIDTH;
+
+pub const NODE_SLOTS_AT: usize = CLAUSES_AT + CLAUSES_MOST * CLAUSES_WIDTH;
+
+pub const LINK_SLOTS_AT: usize = NODE_SLOTS_AT + SLOTS_MOST;
+
+pub const CURVE_SLOTS_AT: usize = LINK_SLOTS_AT + SLOTS_MOST;
+
+pub const PATTERN_SLOTS_AT: usize = CURVE_SLOTS_AT + SLOTS_MOST;
+
+pub const DEMAND_SLOTS_AT: usize = PATTERN_SLOTS_AT + SLOTS_MOST;
+
+pub const RECORD_WORDS: usize = DEMAND_SLOTS_AT + DEMAND_SLOTS_MOST;
+
+pub const COUNTS_AT: usize = RECORD_WORDS;
+
+// The counts, each by the kind that it counts.
+pub const COUNT_NODES: usize = 0;
+
+pub const COUNT_LINKS: usize = COUNT_NODES + 1;
+
+pub const COUNT_CURVES: usize = COUNT_LINKS + 1;
+
+pub const COUNT_POINTS: usize = COUNT_CURVES + 1;
+
+pub const COUNT_PATTERNS: usize = COUNT_POINTS + 1;
+
+pub const COUNT_MULTIPLIERS: usize = COUNT_PATTERNS + 1;
+
+pub const COUNT_DEMANDS: usize = COUNT_MULTIPLIERS + 1;
+
+pub const COUNT_RULES: usize = COUNT_DEMANDS + 1;
+
+pub const COUNT_CLAUSES: usize = COUNT_RULES + 1;
+
+pub const COUNTS_WIDTH: usize = COUNT_CLAUSES + 1;
+
+pub const WORDS_ROOM: usize = COUNTS_AT + COUNTS_WIDTH;
+
+// Where each region of the numbers starts.
+pub const NODE_NUMBERS_AT: usize = 0;
+
+pub const LINK_NUMBERS_AT: usize = NODE_NUMBERS_AT + NODES_MOST * NODE_NUMBERS_WIDTH;
+
+pub const POINT_NUMBERS_AT: usize = LINK_NUMBERS_AT + LINKS_MOST * LINK_NUMBERS_WIDTH;
+
+pub const MULTIPLIER_NUMBERS_AT: usize = POINT_NUMBERS_AT + POINTS_MOST * POINT_NUMBERS_WIDTH;
+
+pub const DEMAND_NUMBERS_AT: usize = MULTIPLIER_NUMBERS_AT
+    + MULTIPLIERS_MOST * MULTIPLIER_NUMBERS_WIDTH;
+
+pub const CLAUSE_NUMBERS_AT: usize = DEMAND_NUMBERS_AT + DEMANDS_MOST * DEMAND_NUMBERS_WIDTH;
+
+pub const NUMBERS_ROOM: usize = CLAUSE_NUMBERS_AT + CLAUSES_MOST * CLAUSE_NUMBERS_WIDTH;
 
 // What storing a record gives: the new counts, or why nothing was stored.
 pub enum Kept {
@@ -206,7 +403,7 @@ fn key_at(text: &[u8], name: Span) -> u64
 pub fn slot_of(key: u64) -> usize
     ensures { λ r. ⌜ r ≡ slotOf key ⌝ }
 {
-    (key % 615) as usize
+    (key % (SLOTS_MOST as u64)) as usize
 }
 
 // The slot at `at` is row i's, unless an earlier row has it.
@@ -242,10 +439,10 @@ fn row_is(text: &[u8], words: &[u64], row: usize, key: u64, name: &[u8]) -> bool
     requires { ⌜ SomeRow (now text) (now words) row × (key ≡ keyOf (now name)) ⌝ }
     ensures { λ r. ⌜ ((n : Name) → Row (now (text .entry)) (now (words .entry)) row n → r ≡ same (n .letters) (now (name .entry))) ⌝ }
 {
-    if words[row + 2] != key {
+    if words[row + ID_KEY] != key {
         return false;
     }
-    let n = words[row + 1] as usize;
+    let n = words[row + ID_LENGTH] as usize;
     if n != name.len() {
         return false;
     }
@@ -258,7 +455,7 @@ fn row_is(text: &[u8], words: &[u64], row: usize, key: u64, name: &[u8]) -> bool
 }
 
 // The first of `count` rows that has the name, which has the key; no row before number `from` has it.
-fn find_name(
+fn walk_rows(
     text: &[u8],
     words: &[u64],
     base: usize,
@@ -282,14 +479,78 @@ fn find_name(
     Found::Nowhere
 }
 
-// The node of the name that has the key.
-pub fn find_node_by(text: &[u8], words: &[u64], count: usize, key: u64, name: &[u8]) -> Found
-    requires { ⌜ ((m : Network) × Words (now text) m (now words) × (count ≡ length (m .nodes))) × (key ≡ keyOf (now name)) ⌝ }
-    ensures { λ r. ⌜ ((m : Network) → Words (now (text .entry)) m (now (words .entry)) → count ≡ length (m .nodes) → r ≡ lookup (nodeIds m) (now (name .entry))) ⌝ }
+fn base_of(kind: Kind) -> usize
+    ensures { λ r. ⌜ r ≡ baseOf kind ⌝ }
+{
+    match kind {
+        Kind::Nodes => NODES_AT,
+        Kind::Links => LINKS_AT,
+        Kind::Curves => CURVES_AT,
+        Kind::Patterns => PATTERNS_AT,
+        Kind::Rules => RULES_AT,
+    }
+}
+
+fn width_of(kind: Kind) -> usize
+    ensures { λ r. ⌜ r ≡ widthOf kind ⌝ }
+{
+    match kind {
+        Kind::Nodes => NODES_WIDTH,
+        Kind::Links => LINKS_WIDTH,
+        Kind::Curves => CURVES_WIDTH,
+        Kind::Patterns => PATTERNS_WIDTH,
+        Kind::Rules => RULES_WIDTH,
+    }
+}
+
+// The row from which on a name of the key is looked for: no row before it has such a name. Rules have no slots.
+fn start_of(words: &[u64], kind: Kind, key: u64, count: usize) -> usize
+    requires { ⌜ length (now words) ≡ recordWords ⌝ }
+    ensures { λ r. ⌜ (r ≤ count) × StartsAt (now (words .entry)) kind key count r ⌝ }
 {
     let slot = slot_of(key);
-    let from = first_in_slot(words, NODE_SLOTS + slot, count);
-    find_name(text, words, NODES, NODE_WORDS, from, count, key, name)
+    match kind {
+        Kind::Nodes => first_in_slot(words, NODE_SLOTS_AT + slot, count),
+        Kind::Links => first_in_slot(words, LINK_SLOTS_AT + slot, count),
+        Kind::Curves => first_in_slot(words, CURVE_SLOTS_AT + slot, count),
+        Kind::Patterns => first_in_slot(words, PATTERN_SLOTS_AT + slot, count),
+        Kind::Rules => 0,
+    }
+}
+
+// The record of the kind, of which there are `count`, that has the name; the name has the key.
+pub fn find(text: &[u8], words: &[u64], kind: Kind, count: usize, key: u64, name: &[u8]) -> Found
+    requires { ⌜ ((m : Network) × Words (now text) m (now words) × (count ≡ recordsOf kind (countsOf m))) × (key ≡ keyOf (now name)) ⌝ }
+    ensures { λ r. ⌜ ((m : Network) → Words (now (text .entry)) m (now (words .entry)) → count ≡ recordsOf kind (countsOf m) → r ≡ lookup (idsOf kind m) (now (name .entry))) ⌝ }
+{
+    let from = start_of(words, kind, key, count);
+    walk_rows(
+        text,
+        words,
+        base_of(kind),
+        width_of(kind),
+        from,
+        count,
+        key,
+        name,
+    )
+}
+
+// The same of a name whose key is not made yet, wherever its letters stand.
+pub fn find_named(text: &[u8], words: &[u64], kind: Kind, count: usize, name: &[u8]) -> Found
+    requires { ⌜ ((m : Network) × Words (now text) m (now words) × (count ≡ recordsOf kind (countsOf m))) ⌝ }
+    ensures { λ r. ⌜ ((m : Network) → Words (now (text .entry)) m (now (words .entry)) → count ≡ recordsOf kind (countsOf m) → r ≡ lookup (idsOf kind m) (now (name .entry))) ⌝ }
+{
+    find(text, words, kind, count, name_key(name), name)
+}
+
+// The same of a name where it stands in the text, whose key is then made of eight letters at once.
+pub fn find_at(text: &[u8], words: &[u64], kind: Kind, count: usize, name: Span) -> Found
+    requires { ⌜ ((m : Network) × Words (now text) m (now words) × (count ≡ recordsOf kind (countsOf m))) ⌝ }
+    ensures { λ r. ⌜ ((m : Network) → Words (now (text .entry)) m (now (words .entry)) → count ≡ recordsOf kind (countsOf m) → r ≡ lookup (idsOf kind m) (part (name .at) (name .end) (now (text .entry)))) ⌝ }
+{
+    let l = fields::letters_of(text, name);
+    find(text, words, kind, count, key_at(text, name), l)
 }
 
 // Where the node of the name stands.
@@ -297,59 +558,13 @@ pub fn node_named(text: &[u8], words: &[u64], nodes: usize, name: Span) -> Found
     requires { ⌜ ((m : Network) × Words (now text) m (now words) × (nodes ≡ length (m .nodes))) ⌝ }
     ensures { λ r. ⌜ ((m : Network) → Words (now (text .entry)) m (now (words .entry)) → nodes ≡ length (m .nodes) → r ≡ lookup (nodeIds m) (part (name .at) (name .end) (now (text .entry)))) ⌝ }
 {
-    let l = fields::letters_of(text, name);
-    find_node_by(text, words, nodes, key_at(text, name), l)
-}
-
-pub fn find_link(text: &[u8], words: &[u64], count: usize, name: &[u8]) -> Found
-    requires { ⌜ ((m : Network) × Words (now text) m (now words) × (count ≡ length (m .links))) ⌝ }
-    ensures { λ r. ⌜ ((m : Network) → Words (now (text .entry)) m (now (words .entry)) → count ≡ length (m .links) → r ≡ lookup (linkIds m) (now (name .entry))) ⌝ }
-{
-    find_link_by(text, words, count, name_key(name), name)
-}
-
-// The same, of the name that has the key.
-pub fn find_link_by(text: &[u8], words: &[u64], count: usize, key: u64, name: &[u8]) -> Found
-    requires { ⌜ ((m : Network) × Words (now text) m (now words) × (count ≡ length (m .links))) × (key ≡ keyOf (now name)) ⌝ }
-    ensures { λ r. ⌜ ((m : Network) → Words (now (text .entry)) m (now (words .entry)) → count ≡ length (m .links) → r ≡ lookup (linkIds m) (now (name .entry))) ⌝ }
-{
-    let slot = slot_of(key);
-    let from = first_in_slot(words, LINK_SLOTS + slot, count);
-    find_name(text, words, LINKS, LINK_WORDS, from, count, key, name)
-}
-
-pub fn find_curve(text: &[u8], words: &[u64], count: usize, name: &[u8]) -> Found
-    requires { ⌜ ((m : Network) × Words (now text) m (now words) × (count ≡ length (m .curves))) ⌝ }
-    ensures { λ r. ⌜ ((m : Network) → Words (now (text .entry)) m (now (words .entry)) → count ≡ length (m .curves) → r ≡ lookup (m .curves) (now (name .entry))) ⌝ }
-{
-    let key = name_key(name);
-    let slot = slot_of(key);
-    let from = first_in_slot(words, CURVE_SLOTS + slot, count);
-    find_name(text, words, CURVES, ID_WORDS, from, count, key, name)
-}
-
-pub fn find_pattern(text: &[u8], words: &[u64], count: usize, name: &[u8]) -> Found
-    requires { ⌜ ((m : Network) × Words (now text) m (now words) × (count ≡ length (m .patterns))) ⌝ }
-    ensures { λ r. ⌜ ((m : Network) → Words (now (text .entry)) m (now (words .entry)) → count ≡ length (m .patterns) → r ≡ lookup (m .patterns) (now (name .entry))) ⌝ }
-{
-    let key = name_key(name);
-    let slot = slot_of(key);
-    let from = first_in_slot(words, PATTERN_SLOTS + slot, count);
-    find_name(text, words, PATTERNS, ID_WORDS, from, count, key, name)
-}
-
-pub fn find_rule(text: &[u8], words: &[u64], count: usize, name: &[u8]) -> Found
-    requires { ⌜ ((m : Network) × Words (now text) m (now words) × (count ≡ length (m .rules))) ⌝ }
-    ensures { λ r. ⌜ ((m : Network) → Words (now (text .entry)) m (now (words .entry)) → count ≡ length (m .rules) → r ≡ lookup (ruleIds m) (now (name .entry))) ⌝ }
-{
-    let key = name_key(name);
-    find_name(text, words, RULES, RULE_WORDS, 0, count, key, name)
+    find_at(text, words, Kind::Nodes, nodes, name)
 }
 
 // ---- what the words and numbers of a record are
 
 // The place, the length and the key of a name.
-pub fn id_words(text: &[u8], id: Span) -> [u64; 3]
+pub fn id_words(text: &[u8], id: Span) -> [u64; ID_WIDTH]
     ensures { λ r. ⌜ r ≡ idWords (nameIn (now (text .entry)) id) ⌝ }
 {
     let l = fields::letters_of(text, id);
@@ -357,7 +572,7 @@ pub fn id_words(text: &[u8], id: Span) -> [u64; 3]
 }
 
 // The place and the length of a name that may be missing.
-pub fn name_words(text: &[u8], f: Field) -> [u64; 2]
+pub fn name_words(text: &[u8], f: Field) -> [u64; NAME_WIDTH]
     ensures { λ r. ⌜ r ≡ nameWords (optIn (now (text .entry)) f) ⌝ }
 {
     let Field::Taken(s) = f else {
@@ -387,29 +602,51 @@ pub fn index_number(f: Found) -> u64
 // ---- what a record is
 
 pub fn is_junction(words: &[u64], i: usize) -> bool
-    requires { ⌜ (i < 256) × (length (now words) ≡ recordWords) ⌝ }
+    requires { ⌜ (i < roomNodes) × (length (now words) ≡ recordWords) ⌝ }
     ensures { λ r. ⌜ ((text : List ℕ) (m : Network) → Words text m (now (words .entry)) → i < length (m .nodes) → r ≡ isJunction (getD (m .nodes) i noNode .kind)) ⌝ }
 {
-    words[NODES + i * NODE_WORDS + 3] == 1
+    words[NODES_AT + i * NODES_WIDTH + NODE_KIND] == codes::JUNCTION
 }
 
 pub fn is_pipe(words: &[u64], i: usize) -> bool
-    requires { ⌜ (i < 256) × (length (now words) ≡ recordWords) ⌝ }
+    requires { ⌜ (i < roomLinks) × (length (now words) ≡ recordWords) ⌝ }
     ensures { λ r. ⌜ ((text : List ℕ) (m : Network) → Words text m (now (words .entry)) → i < length (m .links) → r ≡ isPipe (getD (m .links) i noLink .kind)) ⌝ }
 {
-    words[LINKS + i * LINK_WORDS + 5] == 1
+    words[LINKS_AT + i * LINKS_WIDTH + LINK_KIND] == codes::PIPE
 }
 
 pub fn is_pump(words: &[u64], i: usize) -> bool
-    requires { ⌜ (i < 256) × (length (now words) ≡ recordWords) ⌝ }
+    requires { ⌜ (i < roomLinks) × (length (now words) ≡ recordWords) ⌝ }
     ensures { λ r. ⌜ ((text : List ℕ) (m : Network) → Words text m (now (words .entry)) → i < length (m .links) → r ≡ isPump (getD (m .links) i noLink .kind)) ⌝ }
 {
-    words[LINKS + i * LINK_WORDS + 5] == 2
+    words[LINKS_AT + i * LINKS_WIDTH + LINK_KIND] == codes::PUMP
 }
 
 pub fn is_valve(words: &[u64], i: usize) -> bool
-    requires { ⌜ (i < 256) × (length (now words) ≡ recordWords) ⌝ }
+    requires { ⌜ (i < roomLinks) × (length (now words) ≡ recordWords) ⌝ }
     ensures { λ r. ⌜ ((text : List ℕ) (m : Network) → Words text m (now (words .entry)) → i < length (m .links) → r ≡ isValve (getD (m .links) i noLink .kind)) ⌝ }
 {
-    words[LINKS + i * LINK_WORDS + 5] == 3
+    words[LINKS_AT + i * LINKS_WIDTH + LINK_KIND] == codes::VALVE
+}
+
+// ---- whether there is room
+
+// The words are long enough for a network, and a region has room for a record i.
+pub fn has_room(words: &[u64], room: usize, i: usize) -> bool
+    ensures { λ r. ⌜ r ≡ hasRoom (length (now (words .entry))) room i ⌝ }
+{
+    if RECORD_WORDS <= words.len() {
+        return i < room;
+    }
+    false
+}
+
+// And the numbers are long enough.
+pub fn have_room(words: &[u64], numbers: &[f64], room: usize, i: usize) -> bool
+    ensures { λ r. ⌜ r ≡ haveRoom (length (now (words .entry))) (length (now (numbers .entry))) room i ⌝ }
+{
+    if NUMBERS_ROOM <= numbers.len() {
+        return has_room(words, room, i);
+    }
+    false
 }

@@ -1,10 +1,10 @@
--- `tables::find_name` meets its contract. Assumes nothing.
+-- `tables::walk_rows` meets its contract. Assumes nothing.
 use Prim.Native.Nat.{_-_, _<_}
 use native.Mathlib.Omega.{arith}
 use denote.Ref.{now}
 use Rattle.tables.proofs.WalkLaws.{Searched, start-search, next-search, found-search, none-search, row-inside, some-row}
-use Rattle.tables.proofs.find_name.Statement.{statement}
-use Rattle.tables.proofs.find_name.Tie as tie
+use Rattle.tables.proofs.walk_rows.Statement.{statement}
+use Rattle.tables.proofs.walk_rows.Tie as tie
 
 abbrev Inv-loop : tie.InvT-loop
 Inv-loop text words base stride from count key name i₀ i =
@@ -45,8 +45,8 @@ loop-again c = next-search (now (c .before .before .before .before .before .befo
 returns-2 : tie.Need-returns-2 Inv-loop μ-loop
 returns-2 c = none-search (now (c .before .before .before .before .before .args .text)) (now (c .before .before .before .before .before .args .words)) (c .before .before .before .before .before .args .base) (c .before .before .before .before .before .args .stride) (c .before .before .before .before .before .args .count) (now (c .before .before .before .before .before .args .name)) (c .before .loop .i) (c .before .loop .inv) (omega arith)
 
-pub find-name-spec : {M : Type 1} → statement M
-find-name-spec =
+pub walk-rows-spec : {M : Type 1} → statement M
+walk-rows-spec =
     tie.close
     (tie.spec
     Inv-loop
