@@ -20,7 +20,7 @@ use Rattle.scope.specs.declared.NodeAttribute.the-variants as node
 use Rattle.scope.specs.declared.TankAttribute.the-variants as tankHas
 use Rattle.scope.specs.declared.LinkAttribute.the-variants as link
 use Rattle.scope.specs.declared.Comparison.{Comparison}
-use Rattle.scope.specs.declared.Comparison.the-variants.{Equal, Differs, Above, Below, AtLeast, AtMost}
+use Rattle.scope.specs.declared.Comparison.the-variants.{Equal, NotEqual, Above, Below, AtLeast, AtMost}
 use Rattle.scope.specs.declared.Operator.{Operator}
 use Rattle.scope.specs.declared.Operator.the-variants.{And, Or}
 use Rattle.scope.specs.declared.Value.{Value}
@@ -55,20 +55,20 @@ type-back Pcv = refl
 pub target-back : (t : Target) → targetFrom (targetNo t) ≡ t
 target-back (target.System system.Demand) = refl
 target-back (target.System system.Time) = refl
-target-back (target.System system.ClockTime) = refl
+target-back (target.System system.Clocktime) = refl
 target-back (target.Node node.Demand) = refl
 target-back (target.Node node.Head) = refl
 target-back (target.Node node.Pressure) = refl
 target-back (target.Tank tankHas.Level) = refl
-target-back (target.Tank tankHas.FillTime) = refl
-target-back (target.Tank tankHas.DrainTime) = refl
+target-back (target.Tank tankHas.Filltime) = refl
+target-back (target.Tank tankHas.Draintime) = refl
 target-back (target.Link link.Flow) = refl
 target-back (target.Link link.Status) = refl
 target-back (target.Link link.Setting) = refl
 
 pub comparison-back : (c : Comparison) → comparisonFrom (comparisonNo c) ≡ c
 comparison-back Equal = refl
-comparison-back Differs = refl
+comparison-back NotEqual = refl
 comparison-back Above = refl
 comparison-back Below = refl
 comparison-back AtLeast = refl

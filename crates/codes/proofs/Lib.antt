@@ -1,3 +1,2 @@
 -- What the proofs of the records read back use.
 pub mod CodeLaws
-pub mod RoomLaws

@@ -1,15 +1,14 @@
--- What the words of a record stand for, and whether there is room for a record. Assumes nothing.
+-- What the words of a record stand for. Assumes nothing.
 use Prim.Native.Nat.{ℕ, _+_, _-_}
-use mathlib.Core.Bool.{Bool, cond, _&&_}
+use mathlib.Core.Bool.{cond}
 use mathlib.Core.Option.{Option, none, some}
 use lib.ListN.{length}
-use lib.Dec.{eqb, ltb, leb}
+use lib.Dec.{eqb, ltb}
 use lib.Ieee.{Float}
 use Rattle.fields.specs.Fields.{Name}
 use Rattle.fields.specs.declared.Span.{Span}
 use Rattle.fields.specs.declared.Field.{Field}
 use Rattle.fields.specs.declared.Field.the-variants.{Taken, Nothing}
-use Rattle.scope.specs.Tables.{recordWords, roomNumbers}
 use Rattle.scope.specs.declared.Found.{Found}
 use Rattle.scope.specs.declared.Found.the-variants.{At, Nowhere}
 use Rattle.scope.specs.declared.PipeStatus.{PipeStatus}
@@ -25,21 +24,13 @@ use Rattle.scope.specs.declared.NodeAttribute.the-variants as node
 use Rattle.scope.specs.declared.TankAttribute.the-variants as tankHas
 use Rattle.scope.specs.declared.LinkAttribute.the-variants as link
 use Rattle.scope.specs.declared.Comparison.{Comparison}
-use Rattle.scope.specs.declared.Comparison.the-variants.{Equal, Differs, Above, Below, AtLeast, AtMost}
+use Rattle.scope.specs.declared.Comparison.the-variants.{Equal, NotEqual, Above, Below, AtLeast, AtMost}
 use Rattle.scope.specs.declared.Operator.{Operator}
 use Rattle.scope.specs.declared.Operator.the-variants.{And, Or}
 use Rattle.scope.specs.declared.Value.{Value}
 use Rattle.scope.specs.declared.Value.the-variants.{Number, Status}
 use Rattle.codes.specs.declared.Amount.{Amount}
 use Rattle.codes.specs.declared.Amount.the-variants.{Set, Unset}
-
--- ---- whether there is room
--- the tables are long enough for a network, and a region has room for a record i
-abbrev pub hasRoom : ℕ → ℕ → ℕ → Bool
-hasRoom words room i = leb recordWords words && ltb i room
-
-abbrev pub haveRoom : ℕ → ℕ → ℕ → ℕ → Bool
-haveRoom words numbers room i = leb roomNumbers numbers && hasRoom words room i
 
 -- ---- what the words stand for
 -- a span by its place and its length; one that would end beyond every place is empty
@@ -68,15 +59,15 @@ abbrev pub systemOrNode : ℕ → Target
 systemOrNode n =
     cond (eqb n 1) (target.System system.Demand)
     (cond (eqb n 2) (target.System system.Time)
-    (cond (eqb n 3) (target.System system.ClockTime)
+    (cond (eqb n 3) (target.System system.Clocktime)
     (cond (eqb n 4) (target.Node node.Demand)
     (cond (eqb n 5) (target.Node node.Head) (target.Node node.Pressure)))))
 
 abbrev pub tankOrLink : ℕ → Target
 tankOrLink n =
     cond (eqb n 7) (target.Tank tankHas.Level)
-    (cond (eqb n 8) (target.Tank tankHas.FillTime)
-    (cond (eqb n 9) (target.Tank tankHas.DrainTime)
+    (cond (eqb n 8) (target.Tank tankHas.Filltime)
+    (cond (eqb n 9) (target.Tank tankHas.Draintime)
     (cond (eqb n 10) (target.Link link.Flow)
     (cond (eqb n 11) (target.Link link.Status) (target.Link link.Setting)))))
 
@@ -84,7 +75,7 @@ abbrev pub targetFrom : ℕ → Target
 targetFrom n = cond (ltb n 7) (systemOrNode n) (tankOrLink n)
 
 abbrev pub comparisonFrom : ℕ → Comparison
-comparisonFrom n = cond (eqb n 1) Equal (cond (eqb n 2) Differs (cond (eqb n 3) Above (cond (eqb n 4) Below (cond (eqb n 5) AtLeast AtMost))))
+comparisonFrom n = cond (eqb n 1) Equal (cond (eqb n 2) NotEqual (cond (eqb n 3) Above (cond (eqb n 4) Below (cond (eqb n 5) AtLeast AtMost))))
 
 abbrev pub operatorFrom : ℕ → Operator
 operatorFrom n = cond (eqb n 1) And Or

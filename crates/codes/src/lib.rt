@@ -1,7 +1,10 @@
-// What the words of a record stand for, and whether there is room for a record.
+// The numbers of document 01's words and enums, both ways: what stands in a record for each, and what a word of a record stands for; the numbers of the refusals and of the
+// classes of lines.
 ghost use mathlib.Core.Path.{_≡_};
-ghost use lib.ListN.{length};
-ghost use Rattle.codes.specs.Codes.{hasRoom, haveRoom, spanFrom, fieldFrom, foundFrom, amountFrom, pipeStatusFrom, statusFrom, typeFrom, systemOrNode, tankOrLink, targetFrom, comparisonFrom, operatorFrom, valueFrom};
+ghost use Rattle.scope.specs.Answers.{reasonNo};
+ghost use Rattle.scope.specs.Tables.{pipeStatusNo, statusNo, typeNo, targetNo, comparisonNo, operatorNo, valueNo, valueNumber};
+ghost use Rattle.scope.specs.declared.Target.the-variants as target;
+ghost use Rattle.codes.specs.Codes.{spanFrom, fieldFrom, foundFrom, amountFrom, pipeStatusFrom, statusFrom, typeFrom, systemOrNode, tankOrLink, targetFrom, comparisonFrom, operatorFrom, valueFrom};
 use fields::Field;
 use fields::Span;
 use scope::Comparison;
@@ -11,6 +14,7 @@ use scope::LinkStatus;
 use scope::NodeAttribute;
 use scope::Operator;
 use scope::PipeStatus;
+use scope::Reason;
 use scope::SystemAttribute;
 use scope::TankAttribute;
 use scope::Target;
@@ -23,7 +27,7 @@ pub enum Amount {
     Unset,
 }
 
-// ---- what the words stand for
+// ---- a name, an index and an amount, by their words
 
 // A span by its place and its length; one that would end beyond every place is empty.
 pub fn span_from(at: usize, long: usize) -> Span
@@ -63,6 +67,36 @@ pub fn amount_from(n: u64, x: u64) -> Amount
     Amount::Set(x)
 }
 
+// ---- kinds: of a node, of a link, of a clause
+
+pub const JUNCTION: u64 = 1;
+
+pub const RESERVOIR: u64 = 2;
+
+pub const TANK: u64 = 3;
+
+pub const PIPE: u64 = 1;
+
+pub const PUMP: u64 = 2;
+
+pub const VALVE: u64 = 3;
+
+pub const CONDITION: u64 = 1;
+
+pub const ACTION: u64 = 2;
+
+// ---- statuses and types
+
+pub fn pipe_status_number(s: PipeStatus) -> u64
+    ensures { λ r. ⌜ r ≡ pipeStatusNo s ⌝ }
+{
+    match s {
+        PipeStatus::Open => 1,
+        PipeStatus::Closed => 2,
+        PipeStatus::CheckValve => 3,
+    }
+}
+
 pub fn pipe_status_from(n: u64) -> PipeStatus
     ensures { λ r. ⌜ r ≡ pipeStatusFrom n ⌝ }
 {
@@ -75,6 +109,16 @@ pub fn pipe_status_from(n: u64) -> PipeStatus
     PipeStatus::Open
 }
 
+pub fn status_number(s: LinkStatus) -> u64
+    ensures { λ r. ⌜ r ≡ statusNo s ⌝ }
+{
+    match s {
+        LinkStatus::Open => 1,
+        LinkStatus::Closed => 2,
+        LinkStatus::Active => 3,
+    }
+}
+
 fn status_from(n: u64) -> LinkStatus
     ensures { λ r. ⌜ r ≡ statusFrom n ⌝ }
 {
@@ -85,6 +129,20 @@ fn status_from(n: u64) -> LinkStatus
         return LinkStatus::Closed;
     }
     LinkStatus::Active
+}
+
+pub fn valve_type_number(t: ValveType) -> u64
+    ensures { λ r. ⌜ r ≡ typeNo t ⌝ }
+{
+    match t {
+        ValveType::Gpv => 1,
+        ValveType::Tcv => 2,
+        ValveType::Fcv => 3,
+        ValveType::Prv => 4,
+        ValveType::Psv => 5,
+        ValveType::Pbv => 6,
+        ValveType::Pcv => 7,
+    }
 }
 
 pub fn valve_type_from(n: u64) -> ValveType
@@ -111,6 +169,59 @@ pub fn valve_type_from(n: u64) -> ValveType
     ValveType::Pcv
 }
 
+// ---- what a condition looks at
+
+fn system_number(a: SystemAttribute) -> u64
+    ensures { λ r. ⌜ r ≡ targetNo (target.System a) ⌝ }
+{
+    match a {
+        SystemAttribute::Demand => 1,
+        SystemAttribute::Time => 2,
+        SystemAttribute::Clocktime => 3,
+    }
+}
+
+fn node_number(a: NodeAttribute) -> u64
+    ensures { λ r. ⌜ r ≡ targetNo (target.Node a) ⌝ }
+{
+    match a {
+        NodeAttribute::Demand => 4,
+        NodeAttribute::Head => 5,
+        NodeAttribute::Pressure => 6,
+    }
+}
+
+fn tank_number(a: TankAttribute) -> u64
+    ensures { λ r. ⌜ r ≡ targetNo (target.Tank a) ⌝ }
+{
+    match a {
+        TankAttribute::Level => 7,
+        TankAttribute::Filltime => 8,
+        TankAttribute::Draintime => 9,
+    }
+}
+
+fn link_number(a: LinkAttribute) -> u64
+    ensures { λ r. ⌜ r ≡ targetNo (target.Link a) ⌝ }
+{
+    match a {
+        LinkAttribute::Flow => 10,
+        LinkAttribute::Status => 11,
+        LinkAttribute::Setting => 12,
+    }
+}
+
+pub fn target_number(t: Target) -> u64
+    ensures { λ r. ⌜ r ≡ targetNo t ⌝ }
+{
+    match t {
+        Target::System(a) => system_number(a),
+        Target::Node(a) => node_number(a),
+        Target::Tank(a) => tank_number(a),
+        Target::Link(a) => link_number(a),
+    }
+}
+
 fn system_or_node(n: u64) -> Target
     ensures { λ r. ⌜ r ≡ systemOrNode n ⌝ }
 {
@@ -121,7 +232,7 @@ fn system_or_node(n: u64) -> Target
         return Target::System(SystemAttribute::Time);
     }
     if n == 3 {
-        return Target::System(SystemAttribute::ClockTime);
+        return Target::System(SystemAttribute::Clocktime);
     }
     if n == 4 {
         return Target::Node(NodeAttribute::Demand);
@@ -139,10 +250,10 @@ fn tank_or_link(n: u64) -> Target
         return Target::Tank(TankAttribute::Level);
     }
     if n == 8 {
-        return Target::Tank(TankAttribute::FillTime);
+        return Target::Tank(TankAttribute::Filltime);
     }
     if n == 9 {
-        return Target::Tank(TankAttribute::DrainTime);
+        return Target::Tank(TankAttribute::Draintime);
     }
     if n == 10 {
         return Target::Link(LinkAttribute::Flow);
@@ -162,6 +273,21 @@ pub fn target_from(n: u64) -> Target
     tank_or_link(n)
 }
 
+// ---- comparisons, operators and values
+
+pub fn comparison_number(c: Comparison) -> u64
+    ensures { λ r. ⌜ r ≡ comparisonNo c ⌝ }
+{
+    match c {
+        Comparison::Equal => 1,
+        Comparison::NotEqual => 2,
+        Comparison::Above => 3,
+        Comparison::Below => 4,
+        Comparison::AtLeast => 5,
+        Comparison::AtMost => 6,
+    }
+}
+
 pub fn comparison_from(n: u64) -> Comparison
     ensures { λ r. ⌜ r ≡ comparisonFrom n ⌝ }
 {
@@ -169,7 +295,7 @@ pub fn comparison_from(n: u64) -> Comparison
         return Comparison::Equal;
     }
     if n == 2 {
-        return Comparison::Differs;
+        return Comparison::NotEqual;
     }
     if n == 3 {
         return Comparison::Above;
@@ -183,6 +309,15 @@ pub fn comparison_from(n: u64) -> Comparison
     Comparison::AtMost
 }
 
+pub fn operator_number(o: Operator) -> u64
+    ensures { λ r. ⌜ r ≡ operatorNo o ⌝ }
+{
+    match o {
+        Operator::And => 1,
+        Operator::Or => 2,
+    }
+}
+
 pub fn operator_from(n: u64) -> Operator
     ensures { λ r. ⌜ r ≡ operatorFrom n ⌝ }
 {
@@ -190,6 +325,25 @@ pub fn operator_from(n: u64) -> Operator
         return Operator::And;
     }
     Operator::Or
+}
+
+// A value's status word, 0 where it is a number; and its number, 0 where it is a status word.
+pub fn value_word(v: Value) -> u64
+    ensures { λ r. ⌜ r ≡ valueNo v ⌝ }
+{
+    match v {
+        Value::Number(_) => 0,
+        Value::Status(s) => status_number(s),
+    }
+}
+
+pub fn value_number(v: Value) -> f64
+    ensures { λ r. ⌜ r ≡ valueNumber v ⌝ }
+{
+    match v {
+        Value::Number(x) => x,
+        Value::Status(_) => 0.0,
+    }
 }
 
 pub fn value_from(n: u64, x: f64) -> Value
@@ -201,24 +355,43 @@ pub fn value_from(n: u64, x: f64) -> Value
     Value::Status(status_from(n))
 }
 
-// ---- whether there is room
+// ---- refusals, and the classes of lines
 
-// The words are long enough for a network, and a region has room for a record i.
-pub fn has_room(words: &[u64], room: usize, i: usize) -> bool
-    ensures { λ r. ⌜ r ≡ hasRoom (length (now (words .entry))) room i ⌝ }
+pub fn reason_number(r: Reason) -> u8
+    ensures { λ n. ⌜ n ≡ reasonNo r ⌝ }
 {
-    if tables::RECORD_WORDS <= words.len() {
-        return i < room;
+    match r {
+        Reason::Missing => 1,
+        Reason::Malformed => 2,
+        Reason::Used => 3,
+        Reason::NotFound => 4,
+        Reason::WrongKind => 5,
+        Reason::XFalls => 6,
+        Reason::UnknownWord => 7,
+        Reason::NoCondition => 8,
+        Reason::NoAction => 9,
+        Reason::NoId => 10,
+        Reason::TooLong => 20,
+        Reason::HighByte => 21,
+        Reason::BeyondReach => 22,
+        Reason::NoRoom => 23,
+        Reason::SmallTable => 28,
     }
-    false
 }
 
-// And the numbers are long enough.
-pub fn have_room(words: &[u64], numbers: &[f64], room: usize, i: usize) -> bool
-    ensures { λ r. ⌜ r ≡ haveRoom (length (now (words .entry))) (length (now (numbers .entry))) room i ⌝ }
-{
-    if tables::NUMBERS <= numbers.len() {
-        return has_room(words, room, i);
-    }
-    false
-}
+// The classes of lines.
+pub const BLANK: u8 = 1;
+
+pub const HEADER: u8 = 2;
+
+pub const PASSED: u8 = 3;
+
+pub const TAKEN: u8 = 4;
+
+pub const REFUSED: u8 = 5;
+
+pub const RULE_TAKEN: u8 = 6;
+
+pub const RULE_REFUSED: u8 = 7;
+
+pub const RULE_OPEN: u8 = 8;

@@ -1,9 +1,9 @@
 use lib.Ieee.{ofBits}
 use borrow.Author.Needs.{needs}
-use Rattle.numbering.proofs.value_number.Statement.{statement}
-use Rattle.numbering.proofs.value_number.Tie as tie
-use Rattle.numbering.proofs.value_number.Reads as reads
-use Rattle.numbering.proofs.value_number.Lts as lts
+use Rattle.codes.proofs.value_number.Statement.{statement}
+use Rattle.codes.proofs.value_number.Tie as tie
+use Rattle.codes.proofs.value_number.Reads as reads
+use Rattle.codes.proofs.value_number.Lts as lts
 
 enum-known-v : tie.Need-enum-known-v
 enum-known-v c = search needs
