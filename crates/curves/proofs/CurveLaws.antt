@@ -12,14 +12,14 @@ use lib.Dec.{ltb, eqb}
 use lib.Ieee.{Float, lt}
 use Rattle.fields.specs.Fields.{part, nameIn, Fits}
 use Rattle.fields.specs.declared.Span.{Span}
-use Rattle.scope.specs.Records.{Network, Point, zeroF, lookup}
+use Rattle.scope.specs.Records.{Network, Point, noPoint, lookup}
 use Rattle.scope.specs.Sections.{roomCurves, roomPoints}
 use Rattle.scope.specs.Series.{orElse, lastX, falls, addPoint}
 use Rattle.scope.specs.declared.Counts.{Counts}
 use Rattle.scope.specs.declared.Found.the-variants.{At, Nowhere}
-use Rattle.scope.specs.declared.Reason.the-variants.{Falling, Full}
+use Rattle.scope.specs.declared.Reason.the-variants.{XFalls, NoRoom}
 use Rattle.tables.specs.Table.{splice}
-use Rattle.tables.specs.Layout.{pointsAt, pointNumbersAt, pointNumbersSize}
+use Rattle.scope.specs.Layout.{pointsAt, pointNumbersAt, pointNumbersWidth, pointX}
 use Rattle.tables.specs.Adding.{curveAdded}
 use Rattle.tables.specs.Holding.{Words, Numbers, Holds, After}
 use Rattle.tables.specs.declared.Kept.{Kept}
@@ -40,9 +40,6 @@ last-of : (i : ℕ) (ps : List Point) (p : Point) → lastX i (ps ++ (p ∷ []))
 unfolding lastX
 last-of i [] p = or-none (cond (eqb (p .curve) i) (some (p .x)) none)
 last-of i (q ∷ ps) p = rw (last-of i ps p) (or-again (cond (eqb (p .curve) i) (some (p .x)) none) (lastX i ps) (cond (eqb (q .curve) i) (some (q .x)) none))
-
-abbrev noPoint : Point
-noPoint = record { curve = 0; x = zeroF; y = zeroF }
 
 -- ---- the scan: the points from number k on are none of the curve's
 pub record Sought (w : List ℕ) (f : List Float) (points curve k : ℕ) : Type 0 where
@@ -70,12 +67,10 @@ module _ (w : List ℕ) (f : List Float) (points curve : ℕ) where
     }
 
     pub found-sought : (d : Float) (x : Float) → getD w (pointsAt + (k - 1)) 0 ≡ curve → (text : List ℕ) (m : Network) → Words text m w → Numbers m f → points ≡ length (m .points)
-        → lt x (getD f (pointNumbersAt + (k - 1) * pointNumbersSize) d) ≡ falls x (lastX curve (m .points))
+        → lt x (getD f (pointNumbersAt + (k - 1) * pointNumbersWidth + pointX) d) ≡ falls x (lastX curve (m .points))
     found-sought d x h text m hw hf e =
         let hi : k - 1 < length (m .points) = omega (arith, g .upto) in
-        let at : pointNumbersAt + (k - 1) * pointNumbersSize ≡ pointNumbersAt + (k - 1) * pointNumbersSize + 0 = omega arith in
-        let v : getD f (pointNumbersAt + (k - 1) * pointNumbersSize) d ≡ getD (m .points) (k - 1) noPoint .x =
-        ap (λ (n : ℕ). getD f n d) at ∙ point-number (hw .known) hf (k - 1) 0 d noPoint hi (omega arith) in
+        let v : getD f (pointNumbersAt + (k - 1) * pointNumbersWidth + pointX) d ≡ getD (m .points) (k - 1) noPoint .x = point-number (hw .known) hf (k - 1) pointX d noPoint hi (omega arith) in
         rw (split hw hf e, eq-eqb (getD w (pointsAt + (k - 1)) 0) curve h, v)
 
   pub none-sought : {k : ℕ} → Sought w f points curve k → k ≤ 0 → (x : Float) (text : List ℕ) (m : Network) → Words text m w → Numbers m f → points ≡ length (m .points) → false ≡ falls x (lastX curve (m .points))
@@ -94,16 +89,16 @@ module _ {text : List ℕ} {m : Network} {s : Counts} {w : List ℕ} {f : List F
   and-false true = refl
   and-false false = refl
 
-  pub curves-full : lookup (m .curves) letters ≡ Nowhere → roomCurves ≤ s .curves → Answers (Refused Full) w f
+  pub curves-full : lookup (m .curves) letters ≡ Nowhere → roomCurves ≤ s .curves → Answers (Refused NoRoom) w f
   unfolding addPoint
   curves-full e k = rw (e, le-ltb (length (m .curves)) roomCurves (omega (arith, k, count-curves h))) (refl, refl, refl)
 
-  pub no-room : lookup (m .curves) letters ≡ Nowhere → roomPoints ≤ s .points → Answers (Refused Full) w f
+  pub no-room : lookup (m .curves) letters ≡ Nowhere → roomPoints ≤ s .points → Answers (Refused NoRoom) w f
   unfolding addPoint
   no-room e k = rw (e, le-ltb (length (m .points)) roomPoints (omega (arith, k, count-points h)), and-false (ltb (length (m .curves)) roomCurves)) (refl, refl, refl)
 
   pub starts : (w1 w2 : List ℕ) (f1 : List Float) → lookup (m .curves) letters ≡ Nowhere → Fits text id → s .curves < roomCurves → s .points < roomPoints
-      → w1 ≡ curveAdded w (s .curves) (nameIn text id) → w2 ≡ splice w1 (pointsAt + s .points) (s .curves ∷ []) → f1 ≡ splice f (pointNumbersAt + s .points * pointNumbersSize) (x ∷ y ∷ [])
+      → w1 ≡ curveAdded w (s .curves) (nameIn text id) → w2 ≡ splice w1 (pointsAt + s .points) (s .curves ∷ []) → f1 ≡ splice f (pointNumbersAt + s .points * pointNumbersWidth) (x ∷ y ∷ [])
       → Answers
       (Stored (record { nodes = s .nodes; links = s .links; curves = s .curves + 1; points = s .points + 1; patterns = s .patterns; multipliers = s .multipliers; demands = s .demands; rules = s .rules; clauses = s .clauses }))
       w2 f1
@@ -117,17 +112,17 @@ module _ {text : List ℕ} {m : Network} {s : Counts} {w : List ℕ} {f : List F
       (rw (h .counts, length-append, length-append), h2)
 
   module _ (i : ℕ) (e : lookup (m .curves) letters ≡ At i) where
-    pub falling : falls x (lastX i (m .points)) ≡ true → Answers (Refused Falling) w f
+    pub falling : falls x (lastX i (m .points)) ≡ true → Answers (Refused XFalls) w f
     unfolding addPoint
     falling q = rw (e, q) (refl, refl, refl)
 
     module _ (q : falls x (lastX i (m .points)) ≡ false) where
-      pub points-full : roomPoints ≤ s .points → Answers (Refused Full) w f
+      pub points-full : roomPoints ≤ s .points → Answers (Refused NoRoom) w f
       unfolding addPoint
       points-full k = rw (e, q, le-ltb (length (m .points)) roomPoints (omega (arith, k, count-points h))) (refl, refl, refl)
 
       pub goes-on : (w1 : List ℕ) (f1 : List Float) → s .points < roomPoints
-          → w1 ≡ splice w (pointsAt + s .points) (i ∷ []) → f1 ≡ splice f (pointNumbersAt + s .points * pointNumbersSize) (x ∷ y ∷ [])
+          → w1 ≡ splice w (pointsAt + s .points) (i ∷ []) → f1 ≡ splice f (pointNumbersAt + s .points * pointNumbersWidth) (x ∷ y ∷ [])
           → Answers
           (Stored (record { nodes = s .nodes; links = s .links; curves = s .curves; points = s .points + 1; patterns = s .patterns; multipliers = s .multipliers; demands = s .demands; rules = s .rules; clauses = s .clauses }))
           w1 f1

@@ -1,32 +1,33 @@
-// Stores what a line of CURVES says, as serieslines reads it.
+// Stores what a line of CURVES says, as takers::take_pair reads it.
 ghost use mathlib.Core.Path.{_≡_};
 ghost use mathlib.Core.List.{List, [], _∷_};
 ghost use Prim.Native.Nat.{ℕ, _+_, _*_, _≤_, _<_};
 ghost use lib.ListN.{length, take};
 ghost use Rattle.fields.specs.Fields.{fieldsAt, nameIn, Fits};
-ghost use Rattle.scope.specs.Sections.{roomPoints};
+ghost use Rattle.scope.specs.Sections.{roomPoints, roomCurves};
 ghost use Rattle.scope.specs.Records.{Network};
 ghost use Rattle.scope.specs.Series.{falls, lastX, addPoint, curveStep};
-ghost use Rattle.scope.specs.Tables.{recordWords, roomNumbers, idWords, marked, idSlot};
+ghost use Rattle.scope.specs.Tables.{idWords, marked, idSlot};
 ghost use Rattle.tables.specs.Table.{splice};
-ghost use Rattle.tables.specs.Layout.{pointsAt, patternsAt, patternSlotsAt, idSize, pointNumbersAt, pointNumbersSize};
+ghost use Rattle.scope.specs.Layout.{pointsAt, patternsAt, patternSlotsAt, idWidth, pointNumbersAt, pointNumbersWidth, recordWords, roomNumbers};
 ghost use Rattle.tables.specs.Holding.{Words, Numbers, Holds, Sound, After};
 use fields::Span;
 use scope::Counts;
 use scope::Found;
+use scope::Kind;
 use scope::Reason;
-use serieslines::PointLine;
-use serieslines::PointRead;
 use tables::Kept;
+use takers::PairLine;
+use takers::PairRead;
 
-// A curve's name, or a pattern's for the crate patterns, as record n of those at `base`, and its slot of those at `slots`.
+// A curve's name, or a pattern's for the crate patterns, as record n of those at `base`, and its slot of those at `slots`: the record of either is its id alone.
 pub fn put_id(text: &[u8], id: Span, n: usize, base: usize, slots: usize, words: &mut [u64])
-    requires { ⌜ (n < 64) × (base ≤ patternsAt) × (slots ≤ patternSlotsAt) × (length (now words) ≡ recordWords) ⌝ }
-    ensures { λ _. ⌜ now (words .exit) ≡ marked (splice (now (words .entry)) (base + n * idSize) (idWords (nameIn (now (text .entry)) id))) (slots + idSlot (nameIn (now (text .entry)) id)) (n + 1) ⌝ }
+    requires { ⌜ (n < roomCurves) × (base ≤ patternsAt) × (slots ≤ patternSlotsAt) × (length (now words) ≡ recordWords) ⌝ }
+    ensures { λ _. ⌜ now (words .exit) ≡ marked (splice (now (words .entry)) (base + n * idWidth) (idWords (nameIn (now (text .entry)) id))) (slots + idSlot (nameIn (now (text .entry)) id)) (n + 1) ⌝ }
 {
     let name = tables::id_words(text, id);
-    tables::paste_words(words, base + n * tables::ID_WORDS, &name);
-    let slot = tables::slot_of(name[2]);
+    tables::paste_words(words, base + n * tables::ID_WIDTH, &name);
+    let slot = tables::slot_of(name[tables::ID_KEY]);
     tables::mark(words, slots + slot, n);
 }
 
@@ -38,8 +39,9 @@ fn falls_behind(words: &[u64], numbers: &[f64], points: usize, curve: usize, x: 
     let mut k = points;
     while 0 < k {
         let j = k - 1;
-        if words[tables::POINTS + j] == curve as u64 {
-            return x < numbers[tables::POINT_NUMBERS + j * tables::NUMBERS_OF_POINT];
+        if words[tables::POINTS_AT + j] == curve as u64 {
+            let row = tables::POINT_NUMBERS_AT + j * tables::POINT_NUMBERS_WIDTH;
+            return x < numbers[row + tables::POINT_X];
         }
         k = j;
     }
@@ -49,17 +51,17 @@ fn falls_behind(words: &[u64], numbers: &[f64], points: usize, curve: usize, x: 
 // Point number k.
 fn put_point(words: &mut [u64], numbers: &mut [f64], k: usize, curve: usize, x: f64, y: f64)
     requires { ⌜ (k < roomPoints) × (length (now words) ≡ recordWords) × (length (now numbers) ≡ roomNumbers) ⌝ }
-    ensures { λ _. ⌜ (now (words .exit) ≡ splice (now (words .entry)) (pointsAt + k) (curve ∷ [])) × (now (numbers .exit) ≡ splice (now (numbers .entry)) (pointNumbersAt + k * pointNumbersSize) (x ∷ y ∷ [])) ⌝ }
+    ensures { λ _. ⌜ (now (words .exit) ≡ splice (now (words .entry)) (pointsAt + k) (curve ∷ [])) × (now (numbers .exit) ≡ splice (now (numbers .entry)) (pointNumbersAt + k * pointNumbersWidth) (x ∷ y ∷ [])) ⌝ }
 {
-    tables::paste_words(words, tables::POINTS + k, &[curve as u64]);
+    tables::paste_words(words, tables::POINTS_AT + k, &[curve as u64]);
     tables::paste_numbers(
         numbers,
-        tables::POINT_NUMBERS + k * tables::NUMBERS_OF_POINT,
+        tables::POINT_NUMBERS_AT + k * tables::POINT_NUMBERS_WIDTH,
         &[x, y],
     );
 }
 
-fn store_point(text: &[u8], p: PointLine, s: Counts, words: &mut [u64], numbers: &mut [f64]) -> Kept
+fn store_point(text: &[u8], p: PairLine, s: Counts, words: &mut [u64], numbers: &mut [f64]) -> Kept
     requires { ⌜ Sound (now text) s (now words) (now numbers) × Fits (now text) (p .id) ⌝ }
     ensures { λ r. ⌜ ((m : Network) → Holds (now (text .entry)) m s (now (words .entry)) (now (numbers .entry))
         → After (now (text .entry)) (addPoint (nameIn (now (text .entry)) (p .id)) (p .x) (p .y) m) r (now (words .entry)) (now (numbers .entry)) (now (words .exit)) (now (numbers .exit))) ⌝ }
@@ -67,30 +69,37 @@ fn store_point(text: &[u8], p: PointLine, s: Counts, words: &mut [u64], numbers:
     let id = p.id;
     let n = s.curves;
     let k = s.points;
-    let found = tables::find_curve(text, words, n, fields::letters_of(text, id));
+    let found = tables::find_at(text, words, Kind::Curves, n, id);
     let mut t = s;
     t.points = k + 1;
     match found {
         Found::At(i) => {
             if falls_behind(words, numbers, k, i, p.x) {
-                return Kept::Refused(Reason::Falling);
+                return Kept::Refused(Reason::XFalls);
             }
-            if k < 1024 {
+            if k < tables::POINTS_MOST {
                 put_point(words, numbers, k, i, p.x, p.y);
                 return Kept::Stored(t);
             }
-            Kept::Refused(Reason::Full)
+            Kept::Refused(Reason::NoRoom)
         }
         Found::Nowhere => {
-            if n < 64 {
-                if k < 1024 {
-                    put_id(text, id, n, tables::CURVES, tables::CURVE_SLOTS, words);
+            if n < tables::CURVES_MOST {
+                if k < tables::POINTS_MOST {
+                    put_id(
+                        text,
+                        id,
+                        n,
+                        tables::CURVES_AT,
+                        tables::CURVE_SLOTS_AT,
+                        words,
+                    );
                     put_point(words, numbers, k, n, p.x, p.y);
                     t.curves = n + 1;
                     return Kept::Stored(t);
                 }
             }
-            Kept::Refused(Reason::Full)
+            Kept::Refused(Reason::NoRoom)
         }
     }
 }
@@ -108,9 +117,9 @@ pub fn curve_line(
     ensures { λ r. ⌜ ((m : Network) → Holds (now (text .entry)) m s (now (words .entry)) (now (numbers .entry))
         → After (now (text .entry)) (curveStep (fieldsAt (take end (now (text .entry))) at) m) r (now (words .entry)) (now (numbers .entry)) (now (words .exit)) (now (numbers .exit))) ⌝ }
 {
-    let read = serieslines::read_curve(&text[..end], at);
+    let read = takers::take_pair(&text[..end], at);
     match read {
-        PointRead::Point(p) => store_point(text, p, s, words, numbers),
-        PointRead::NoPoint(why) => Kept::Refused(why),
+        PairRead::Pair(p) => store_point(text, p, s, words, numbers),
+        PairRead::NoPair(why) => Kept::Refused(why),
     }
 }

@@ -15,18 +15,18 @@ use Rattle.fields.specs.Fields.{Name, part, nameIn}
 use Rattle.fields.specs.declared.Span.{Span}
 use Rattle.fields.specs.declared.Field.{Field}
 use Rattle.fields.specs.declared.Field.the-variants.{Taken, Nothing}
-use Rattle.scope.specs.Records.{Network, NodeKind, junction, reservoir, tank, Demand, noNode, lookup, nodeIds}
+use Rattle.scope.specs.Records.{Network, NodeKind, junction, reservoir, tank, Demand, noNode, lookup, nodeIds, noDemand}
 use Rattle.scope.specs.Sections.{roomDemands}
 use Rattle.scope.specs.Series.{demandAt, ownFrom, addDemand, setDemand}
 use Rattle.scope.specs.Tables.{flag, nameWords, demandWords, slots, demandSlot}
 use Rattle.scope.specs.declared.Counts.{Counts}
 use Rattle.scope.specs.declared.Found.the-variants.{At, Nowhere}
-use Rattle.scope.specs.declared.Reason.the-variants.{NotFound, WrongKind, Full}
+use Rattle.scope.specs.declared.Reason.the-variants.{NotFound, WrongKind, NoRoom}
 use Rattle.takers.specs.Taking.{optIn, MayFit}
 use Rattle.tables.specs.Table.{splice}
-use Rattle.tables.specs.Layout.{demandsAt, demandSize, demandSlotsAt, demandNumbersAt}
+use Rattle.scope.specs.Layout.{demandsAt, demandsWidth, demandNode, demandOwn, namePlace, nameLength, nameWidth, demandSlotsAt, demandSlotsLong, demandNumbersAt}
 use Rattle.tables.specs.Adding.{demandAdded}
-use Rattle.tables.specs.Holding.{SitsOr, Words, Holds, After, FirstInSlot, noDemand, isJunction}
+use Rattle.tables.specs.Holding.{SitsOr, Words, Holds, After, FirstInSlot, isJunction}
 use Rattle.tables.specs.declared.Kept.{Kept}
 use Rattle.tables.specs.declared.Kept.the-variants.{Stored, Refused}
 use Rattle.tables.proofs.HoldLaws.{sits-field, add-demand, change-demand, same-count-demands, count-nodes, count-demands}
@@ -41,17 +41,15 @@ own-flag true = refl
 own-flag false = refl
 
 module _ {text : List ℕ} {m : Network} {w : List ℕ} (hw : Words text m w) (k node : ℕ) (hk : k < length (m .demands)) where
-  node-at : getD w (demandsAt + k * demandSize) 0 ≡ getD (m .demands) k noDemand .node
-  node-at =
-      let at : demandsAt + k * demandSize ≡ demandsAt + k * demandSize + 0 = omega arith in
-      ap (λ (n : ℕ). getD w n 0) at ∙ demand-word hw k 0 noDemand hk (omega arith)
+  node-at : getD w (demandsAt + k * demandsWidth + demandNode) 0 ≡ getD (m .demands) k noDemand .node
+  node-at = demand-word hw k demandNode noDemand hk (omega arith)
 
-  pub same-node : getD w (demandsAt + k * demandSize) 0 ≡ node → eqb (getD w (demandsAt + k * demandSize + 1) 0) 1 ≡ isOwn (getD (m .demands) k noDemand) node
+  pub same-node : getD w (demandsAt + k * demandsWidth + demandNode) 0 ≡ node → eqb (getD w (demandsAt + k * demandsWidth + demandOwn) 0) 1 ≡ isOwn (getD (m .demands) k noDemand) node
   same-node e =
-      rw (eq-eqb (getD (m .demands) k noDemand .node) node (sym node-at ∙ e), demand-word hw k 1 noDemand hk (omega arith))
+      rw (eq-eqb (getD (m .demands) k noDemand .node) node (sym node-at ∙ e), demand-word hw k demandOwn noDemand hk (omega arith))
       (own-flag (getD (m .demands) k noDemand .own))
 
-  pub other-node : (getD w (demandsAt + k * demandSize) 0 ≡ node → ⊥) → false ≡ isOwn (getD (m .demands) k noDemand) node
+  pub other-node : (getD w (demandsAt + k * demandsWidth + demandNode) 0 ≡ node → ⊥) → false ≡ isOwn (getD (m .demands) k noDemand) node
   other-node n = rw (ne-eqb (getD (m .demands) k noDemand .node) node (λ e. n (node-at ∙ e)))
 
 -- ---- the demands that are left
@@ -74,14 +72,14 @@ and-true true true e = (refl, refl)
 and-true true false e = absurd (false≢true e)
 and-true false b e = absurd (false≢true e)
 
-module _ {text : List ℕ} {m : Network} {w : List ℕ} (hw : Words text m w) (node k : ℕ) (at : FirstInSlot (getD w (demandSlotsAt + node % 256) 0) (length (m .demands)) k) where
+module _ {text : List ℕ} {m : Network} {w : List ℕ} (hw : Words text m w) (node k : ℕ) (at : FirstInSlot (getD w (demandSlotsAt + node % demandSlotsLong) 0) (length (m .demands)) k) where
   -- an own demand is the first in its slot, which is number k
   only-first : (j : ℕ) → j < length (m .demands) → isOwn (getD (m .demands) j noDemand) node ≡ true → j ≡ k
   only-first j hj e =
       let d : Demand = getD (m .demands) j noDemand in
       let both = and-true (eqb (d .node) node) (d .own) e in
       let f = hw .known .owned .first j hj (both .1) in
-      let q : getD w (demandSlotsAt + node % 256) 0 ≡ suc j = demand-slot hw (node % 256) (omega arith) ∙ ap (λ (i : ℕ). getD (slots demandSlot 256 (m .demands)) (i % 256) 0) (sym (eqb-true (d .node) node (both .0))) ∙ f in
+      let q : getD w (demandSlotsAt + node % demandSlotsLong) 0 ≡ suc j = demand-slot hw (node % demandSlotsLong) (omega arith) ∙ ap (λ (i : ℕ). getD (slots demandSlot demandSlotsLong (m .demands)) (i % demandSlotsLong) 0) (sym (eqb-true (d .node) node (both .0))) ∙ f in
       omega (arith, q, at (omega (arith, q)) (omega (arith, q)))
 
   not-others : (j : ℕ) → j < length (m .demands) → (j ≡ k → ⊥) → isOwn (getD (m .demands) j noDemand) node ≡ false
@@ -146,17 +144,17 @@ own-node : (node : ℕ) (ds : List Demand) (k : ℕ) → ownFrom 0 node ds ≡ A
 own-node node ds k e = let z : k - 0 ≡ k = omega arith in rw z at (own-row 0 node ds k e .1)
 
 -- ---- the words of a demand
-two-words : (o : Option Name) → nameWords o ≡ getD (nameWords o) 0 0 ∷ getD (nameWords o) 1 0 ∷ []
+two-words : (o : Option Name) → nameWords o ≡ getD (nameWords o) namePlace 0 ∷ getD (nameWords o) nameLength 0 ∷ []
 two-words none = refl
 two-words (some n) = refl
 
-pub words-two : (text : List ℕ) (f : Field) {p : List ℕ} → p ≡ nameWords (optIn text f) → length p ≡ 2
+pub words-two : (text : List ℕ) (f : Field) {p : List ℕ} → p ≡ nameWords (optIn text f) → length p ≡ nameWidth
 words-two text f e = ap length (e ∙ two-words (optIn text f))
 
 pub demand-words : (text : List ℕ) (node : ℕ) (x : Float) (f : Field) (p : List ℕ) → p ≡ nameWords (optIn text f)
-    → node ∷ 0 ∷ getD p 0 0 ∷ getD p 1 0 ∷ 0 ∷ [] ≡ demandWords (demandAt node x (optIn text f))
+    → node ∷ 0 ∷ getD p namePlace 0 ∷ getD p nameLength 0 ∷ 0 ∷ [] ≡ demandWords (demandAt node x (optIn text f))
 demand-words text node x f p e =
-    ap (λ (l : List ℕ). node ∷ 0 ∷ getD l 0 0 ∷ getD l 1 0 ∷ 0 ∷ []) e ∙ ap (λ (l : List ℕ). node ∷ 0 ∷ l ++ (0 ∷ [])) (sym (two-words (optIn text f)))
+    ap (λ (l : List ℕ). node ∷ 0 ∷ getD l namePlace 0 ∷ getD l nameLength 0 ∷ 0 ∷ []) e ∙ ap (λ (l : List ℕ). node ∷ 0 ∷ l ++ (0 ∷ [])) (sym (two-words (optIn text f)))
 
 pub sits : (text : List ℕ) (f : Field) → MayFit text f → SitsOr text (optIn text f)
 sits text (Taken s) h = sits-field text (Taken s) h
@@ -168,7 +166,7 @@ module _ {text : List ℕ} {m : Network} {s : Counts} {w : List ℕ} {f : List F
     abbrev Adds : Kept → List ℕ → List Float → Type 0
     Adds r w′ f′ = After text (addDemand node x (optIn text p) m) r w f w′ f′
 
-    pub demands-full : ownFrom 0 node (m .demands) ≡ Nowhere → roomDemands ≤ s .demands → Adds (Refused Full) w f
+    pub demands-full : ownFrom 0 node (m .demands) ≡ Nowhere → roomDemands ≤ s .demands → Adds (Refused NoRoom) w f
     unfolding addDemand
     demands-full e k = rw (e, le-ltb (length (m .demands)) roomDemands (omega (arith, k, count-demands h))) (refl, refl, refl)
 
@@ -183,12 +181,12 @@ module _ {text : List ℕ} {m : Network} {s : Counts} {w : List ℕ} {f : List F
         rw (e, lt-ltb (length (m .demands)) roomDemands (omega (arith, k, count-demands h))) (rw (h .counts, length-append), h1)
 
     pub replaced : (k : ℕ) (w1 : List ℕ) (f1 : List Float) → ownFrom 0 node (m .demands) ≡ At k → MayFit text p
-        → w1 ≡ splice w (demandsAt + k * demandSize) (demandWords (demandAt node x (optIn text p))) → f1 ≡ splice f (demandNumbersAt + k) (x ∷ [])
+        → w1 ≡ splice w (demandsAt + k * demandsWidth) (demandWords (demandAt node x (optIn text p))) → f1 ≡ splice f (demandNumbersAt + k) (x ∷ [])
         → Adds (Stored s) w1 f1
     unfolding addDemand
     replaced k w1 f1 e fits ew ef =
         let d : Demand = demandAt node x (optIn text p) in
-        let h1 = change-demand h k noDemand d (own-in node (m .demands) k e) (sits text p fits) (ap (λ (i : ℕ). i % 256) (sym (own-node node (m .demands) k e))) (λ f. absurd (false≢true f)) ew ef in
+        let h1 = change-demand h k noDemand d (own-in node (m .demands) k e) (sits text p fits) (ap (λ (i : ℕ). i % demandSlotsLong) (sym (own-node node (m .demands) k e))) (λ f. absurd (false≢true f)) ew ef in
         rw e (ap Stored (h .counts ∙ sym (same-count-demands m k d)), h1)
 
   module _ (id : Span) where

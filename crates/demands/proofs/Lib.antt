@@ -1,3 +1,3 @@
 -- What the proofs of this crate use.
-pub mod StepLaws
+pub mod LineLaws
 pub mod DemandLaws

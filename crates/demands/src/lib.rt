@@ -5,13 +5,13 @@ ghost use Prim.Native.Nat.{ℕ, _+_, _*_, _≤_, _<_};
 ghost use lib.ListN.{length, take, getD};
 ghost use Rattle.fields.specs.Fields.{fieldsAt, nameIn, Fits};
 ghost use Rattle.scope.specs.Sections.{roomDemands};
-ghost use Rattle.scope.specs.Records.{Network};
+ghost use Rattle.scope.specs.Records.{Network, noDemand};
 ghost use Rattle.scope.specs.Series.{demandAt, ownFrom, addDemand, setDemand, demandStep};
-ghost use Rattle.scope.specs.Tables.{recordWords, roomNumbers, demandWords};
+ghost use Rattle.scope.specs.Tables.{demandWords};
 ghost use Rattle.takers.specs.Taking.{optIn, MayFit};
 ghost use Rattle.tables.specs.Table.{splice};
-ghost use Rattle.tables.specs.Layout.{demandsAt, demandSize, demandNumbersAt};
-ghost use Rattle.tables.specs.Holding.{Words, Holds, Sound, After, noDemand};
+ghost use Rattle.scope.specs.Layout.{demandsAt, demandsWidth, demandNumbersAt, recordWords, roomNumbers};
+ghost use Rattle.tables.specs.Holding.{Words, Holds, Sound, After};
 ghost use Rattle.demands.specs.Storing.{isOwn};
 use scope::Counts;
 use scope::Found;
@@ -25,9 +25,9 @@ fn is_own(words: &[u64], k: usize, node: usize) -> bool
     requires { ⌜ (k < roomDemands) × (length (now words) ≡ recordWords) ⌝ }
     ensures { λ r. ⌜ ((text : List ℕ) (m : Network) → Words text m (now (words .entry)) → k < length (m .demands) → r ≡ isOwn (getD (m .demands) k noDemand) node) ⌝ }
 {
-    let row = tables::DEMANDS + k * tables::DEMAND_WORDS;
-    if words[row] == node as u64 {
-        return words[row + 1] == 1;
+    let row = tables::DEMANDS_AT + k * tables::DEMANDS_WIDTH;
+    if words[row + tables::DEMAND_NODE] == node as u64 {
+        return words[row + tables::DEMAND_OWN] == 1;
     }
     false
 }
@@ -37,7 +37,11 @@ fn own_demand(words: &[u64], demands: usize, node: usize) -> Found
     requires { ⌜ (demands ≤ roomDemands) × (length (now words) ≡ recordWords) ⌝ }
     ensures { λ r. ⌜ ((text : List ℕ) (m : Network) → Words text m (now (words .entry)) → demands ≡ length (m .demands) → r ≡ ownFrom 0 node (m .demands)) ⌝ }
 {
-    let k = tables::first_in_slot(words, tables::DEMAND_SLOTS + node % 256, demands);
+    let k = tables::first_in_slot(
+        words,
+        tables::DEMAND_SLOTS_AT + node % tables::DEMAND_SLOTS_MOST,
+        demands,
+    );
     if k < demands {
         if is_own(words, k, node) {
             return Found::At(k);
@@ -56,16 +60,22 @@ fn put_demand(
     numbers: &mut [f64],
 )
     requires { ⌜ (k < roomDemands) × (length (now words) ≡ recordWords) × (length (now numbers) ≡ roomNumbers) ⌝ }
-    ensures { λ _. ⌜ (now (words .exit) ≡ splice (now (words .entry)) (demandsAt + k * demandSize) (demandWords (demandAt node (d .base) (optIn (now (text .entry)) (d .pattern))))) × (now (numbers .exit) ≡ splice (now (numbers .entry)) (demandNumbersAt + k) (d .base ∷ [])) ⌝ }
+    ensures { λ _. ⌜ (now (words .exit) ≡ splice (now (words .entry)) (demandsAt + k * demandsWidth) (demandWords (demandAt node (d .base) (optIn (now (text .entry)) (d .pattern))))) × (now (numbers .exit) ≡ splice (now (numbers .entry)) (demandNumbersAt + k) (d .base ∷ [])) ⌝ }
 {
     let pattern = d.pattern;
     let p = tables::name_words(text, pattern);
     tables::paste_words(
         words,
-        tables::DEMANDS + k * tables::DEMAND_WORDS,
-        &[node as u64, 0, p[0], p[1], 0],
+        tables::DEMANDS_AT + k * tables::DEMANDS_WIDTH,
+        &[
+            node as u64,
+            0,
+            p[tables::NAME_PLACE],
+            p[tables::NAME_LENGTH],
+            0,
+        ],
     );
-    tables::paste_numbers(numbers, tables::DEMAND_NUMBERS + k, &[d.base]);
+    tables::paste_numbers(numbers, tables::DEMAND_NUMBERS_AT + k, &[d.base]);
 }
 
 // The junction's own demand gives its room to its first line.
@@ -89,14 +99,18 @@ fn add_demand(
             Kept::Stored(s)
         }
         Found::Nowhere => {
-            if n < 512 {
+            if n < tables::DEMANDS_MOST {
                 put_demand(text, d, node, n, words, numbers);
-                tables::mark(words, tables::DEMAND_SLOTS + node % 256, n);
+                tables::mark(
+                    words,
+                    tables::DEMAND_SLOTS_AT + node % tables::DEMAND_SLOTS_MOST,
+                    n,
+                );
                 let mut t = s;
                 t.demands = n + 1;
                 return Kept::Stored(t);
             }
-            Kept::Refused(Reason::Full)
+            Kept::Refused(Reason::NoRoom)
         }
     }
 }

@@ -1,4 +1,4 @@
 -- What the proofs of this crate use.
-pub mod StepLaws
+pub mod LineLaws
 pub mod StoringLaws
 pub mod PatternStoreLaws

@@ -1,5 +1,5 @@
 -- What storing a pattern makes of the network. Assumes nothing.
-use Prim.Native.Nat.{ℕ, suc, _+_, _-_, _*_, _≤_, _<_}
+use Prim.Native.Nat.{ℕ, suc, _+_, _≤_, _<_}
 use native.Mathlib.Omega.{arith}
 use borrow.Author.Tests.{lt-ltb, le-ltb, le-leb, lt-leb}
 use mathlib.Core.Path.{_≡_, refl, sym, ap, _∙_}
@@ -20,9 +20,9 @@ use Rattle.scope.specs.Series.{multipliersOf, addPattern}
 use Rattle.scope.specs.declared.Counts.{Counts}
 use Rattle.scope.specs.declared.Found.{Found}
 use Rattle.scope.specs.declared.Found.the-variants.{At, Nowhere}
-use Rattle.scope.specs.declared.Reason.the-variants.{Full}
+use Rattle.scope.specs.declared.Reason.the-variants.{NoRoom}
 use Rattle.tables.specs.Table.{splice}
-use Rattle.tables.specs.Layout.{multipliersAt, multiplierNumbersAt}
+use Rattle.scope.specs.Layout.{multipliersAt, multiplierNumbersAt}
 use Rattle.tables.specs.Adding.{patternAdded}
 use Rattle.tables.specs.Holding.{Holds, After}
 use Rattle.tables.specs.declared.Kept.the-variants.{Stored, Refused}
@@ -56,15 +56,15 @@ module _ {text : List ℕ} {m : Network} {s : Counts} {w : List ℕ} {f : List F
   abbrev letters : List ℕ
   letters = part (id .at) (id .end) text
 
-  found-full : (o : Found) → lookup (m .patterns) letters ≡ o → roomMultipliers < s .multipliers + length xs → After text (addPattern (nameIn text id) xs m) (Refused Full) w f w f
+  found-full : (o : Found) → lookup (m .patterns) letters ≡ o → roomMultipliers < s .multipliers + length xs → After text (addPattern (nameIn text id) xs m) (Refused NoRoom) w f w f
   unfolding addPattern
   found-full (At i) e k = rw (e, lt-leb (length (m .multipliers) + length xs) roomMultipliers (omega (arith, k, count-multipliers h))) (refl, refl, refl)
   found-full Nowhere e k = rw (e, lt-leb (length (m .multipliers) + length xs) roomMultipliers (omega (arith, k, count-multipliers h)), and-false (ltb (length (m .patterns)) roomPatterns)) (refl, refl, refl)
 
-  pub values-full : roomMultipliers < s .multipliers + length xs → After text (addPattern (nameIn text id) xs m) (Refused Full) w f w f
+  pub values-full : roomMultipliers < s .multipliers + length xs → After text (addPattern (nameIn text id) xs m) (Refused NoRoom) w f w f
   values-full k = found-full (lookup (m .patterns) letters) refl k
 
-  pub patterns-full : lookup (m .patterns) letters ≡ Nowhere → roomPatterns ≤ s .patterns → After text (addPattern (nameIn text id) xs m) (Refused Full) w f w f
+  pub patterns-full : lookup (m .patterns) letters ≡ Nowhere → roomPatterns ≤ s .patterns → After text (addPattern (nameIn text id) xs m) (Refused NoRoom) w f w f
   unfolding addPattern
   patterns-full e k = rw (e, le-ltb (length (m .patterns)) roomPatterns (omega (arith, k, count-patterns h))) (refl, refl, refl)
 

@@ -1,5 +1,5 @@
 -- Loops that store the multipliers of a line. Assumes nothing.
-use Prim.Native.Nat.{ℕ, suc, _+_, _-_, _≤_, _<_}
+use Prim.Native.Nat.{ℕ, suc, _+_, _≤_, _<_}
 use native.Mathlib.Omega.{arith}
 use native.Mathlib.Numerals.{add-one}
 use mathlib.Core.Path.{_≡_, refl, sym, ap, _∙_}
@@ -12,12 +12,11 @@ use Rattle.decimals.specs.declared.Number as D
 use Rattle.decimals.specs.declared.Number.the-variants.{Value, Malformed, Beyond}
 use Rattle.fields.specs.Fields.{Name}
 use Rattle.scope.specs.Sections.{roomMultipliers}
-use Rattle.scope.specs.Tables.{recordWords, roomNumbers}
 use Rattle.scope.specs.declared.Reason.{Reason}
 use Rattle.scope.specs.Values.{Read, good, bad, onRead, took, refused, asNumber, numberFrom}
 use Rattle.scope.specs.Series.{multipliersOf}
 use Rattle.tables.specs.Table.{splice}
-use Rattle.tables.specs.Layout.{multipliersAt, multiplierNumbersAt}
+use Rattle.scope.specs.Layout.{multipliersAt, multiplierNumbersAt, recordWords, roomNumbers}
 use Rattle.serieslines.specs.Lines.{Multipliers}
 
 -- the numbers xs are put into the tables, as multipliers of a pattern from multiplier number k on

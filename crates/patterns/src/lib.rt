@@ -9,14 +9,14 @@ ghost use Rattle.scope.specs.Sections.{roomMultipliers};
 ghost use Rattle.scope.specs.Records.{Network};
 ghost use Rattle.scope.specs.Values.{good};
 ghost use Rattle.scope.specs.Series.{multipliersOf, addPattern, patternStep};
-ghost use Rattle.scope.specs.Tables.{recordWords, roomNumbers};
 ghost use Rattle.tables.specs.Table.{splice};
-ghost use Rattle.tables.specs.Layout.{multipliersAt, multiplierNumbersAt};
+ghost use Rattle.scope.specs.Layout.{multipliersAt, multiplierNumbersAt, recordWords, roomNumbers};
 ghost use Rattle.tables.specs.Holding.{Holds, Sound, After};
 ghost use Rattle.serieslines.specs.Lines.{Multipliers};
 use curves::put_id;
 use scope::Counts;
 use scope::Found;
+use scope::Kind;
 use scope::Reason;
 use serieslines::PatternLine;
 use serieslines::PatternRead;
@@ -36,8 +36,8 @@ fn put_rest(l: &[u8], at: usize, k: usize, pattern: usize, words: &mut [u64], nu
         let TookNumber::Number(x, next) = t else {
             return;
         };
-        words[tables::MULTIPLIERS + i] = pattern as u64;
-        numbers[tables::MULTIPLIER_NUMBERS + i] = x;
+        words[tables::MULTIPLIERS_AT + i] = pattern as u64;
+        numbers[tables::MULTIPLIER_NUMBERS_AT + i] = x;
         i += 1;
         p = next;
     }
@@ -50,8 +50,8 @@ fn put_numbers(xs: &[f64], k: usize, pattern: usize, words: &mut [u64], numbers:
 {
     let mut i = 0;
     while i < xs.len() {
-        words[tables::MULTIPLIERS + k + i] = pattern as u64;
-        numbers[tables::MULTIPLIER_NUMBERS + k + i] = xs[i];
+        words[tables::MULTIPLIERS_AT + k + i] = pattern as u64;
+        numbers[tables::MULTIPLIER_NUMBERS_AT + k + i] = xs[i];
         i += 1;
     }
 }
@@ -96,9 +96,9 @@ fn store_pattern(
     let count = p.count;
     let n = s.patterns;
     let k = s.multipliers;
-    let found = tables::find_pattern(text, words, n, fields::letters_of(text, id));
-    if 2048 < k + count {
-        return Kept::Refused(Reason::Full);
+    let found = tables::find_at(text, words, Kind::Patterns, n, id);
+    if tables::MULTIPLIERS_MOST < k + count {
+        return Kept::Refused(Reason::NoRoom);
     }
     let mut t = s;
     t.multipliers = k + count;
@@ -108,13 +108,20 @@ fn store_pattern(
             Kept::Stored(t)
         }
         Found::Nowhere => {
-            if n < 64 {
-                put_id(text, id, n, tables::PATTERNS, tables::PATTERN_SLOTS, words);
+            if n < tables::PATTERNS_MOST {
+                put_id(
+                    text,
+                    id,
+                    n,
+                    tables::PATTERNS_AT,
+                    tables::PATTERN_SLOTS_AT,
+                    words,
+                );
                 put_multipliers(line, first, p, k, n, words, numbers);
                 t.patterns = n + 1;
                 return Kept::Stored(t);
             }
-            Kept::Refused(Reason::Full)
+            Kept::Refused(Reason::NoRoom)
         }
     }
 }

@@ -17,7 +17,8 @@ use Rattle.scope.specs.Values.{good, bad}
 use Rattle.scope.specs.Nodes.{onJunction, changeNode, emitting, setEmitter, standing, setPlace}
 use Rattle.scope.specs.Tables.{idWords, nameWords, flag, indexNo, kindWords, kindNumbers, placed, placeNumbers, nodeWords, nodeNumbers}
 use Rattle.tables.specs.Table.{splice}
-use Rattle.tables.specs.Layout.{nodesAt, nodeSize, nodeNumbersAt, nodeNumbersSize}
+use Rattle.scope.specs.Sections.{roomNodes}
+use Rattle.scope.specs.Layout.{nodesAt, nodesWidth, nodePlaced, nodeNumbersAt, nodeNumbersWidth, junctionEmitter, nodeX}
 use Rattle.tables.specs.Holding.{NodeFine, Holds, After, isJunction}
 use Rattle.tables.specs.declared.Kept.the-variants.{Stored, Refused}
 use Rattle.tables.proofs.HoldLaws.{each-at, change-node, change-node-numbers, same-count-nodes}
@@ -28,20 +29,20 @@ use Rattle.tables.proofs.ReadLaws.{node-count}
 emit-words : (n : Node) (j : Junction) (x : Float) → n .kind ≡ junction j → nodeWords (emitting n j x) ≡ nodeWords n
 emit-words n j x q = rw q
 
-emit-numbers : (n : Node) (j : Junction) (x : Float) → n .kind ≡ junction j → nodeNumbers (emitting n j x) ≡ splice (nodeNumbers n) 1 (x ∷ [])
+emit-numbers : (n : Node) (j : Junction) (x : Float) → n .kind ≡ junction j → nodeNumbers (emitting n j x) ≡ splice (nodeNumbers n) junctionEmitter (x ∷ [])
 emit-numbers n j x q = rw q
 
 place-word : (id : Name) (kind : ℕ) (p : Option Name) (last a b : ℕ)
-    → _≡_ {A = List ℕ} (idWords id ++ (kind ∷ nameWords p ++ (last ∷ [])) ++ (b ∷ [])) (splice (idWords id ++ (kind ∷ nameWords p ++ (last ∷ [])) ++ (a ∷ [])) 7 (b ∷ []))
+    → _≡_ {A = List ℕ} (idWords id ++ (kind ∷ nameWords p ++ (last ∷ [])) ++ (b ∷ [])) (splice (idWords id ++ (kind ∷ nameWords p ++ (last ∷ [])) ++ (a ∷ [])) nodePlaced (b ∷ []))
 place-word id kind none last a b = refl
 place-word id kind (some n) last a b = refl
 
-kind-place-word : (id : Name) (k : NodeKind) (a b : ℕ) → idWords id ++ kindWords k ++ (b ∷ []) ≡ splice (idWords id ++ kindWords k ++ (a ∷ [])) 7 (b ∷ [])
+kind-place-word : (id : Name) (k : NodeKind) (a b : ℕ) → idWords id ++ kindWords k ++ (b ∷ []) ≡ splice (idWords id ++ kindWords k ++ (a ∷ [])) nodePlaced (b ∷ [])
 kind-place-word id (junction j) a b = place-word id 1 none (flag (j .disabled)) a b
 kind-place-word id (reservoir r) a b = place-word id 2 (r .pattern) (indexNo (r .index)) a b
 kind-place-word id (tank t) a b = place-word id 3 (t .curve) (flag (t .overflow)) a b
 
-kind-place-numbers : (k : NodeKind) (o : Option Place) (x y : Float) → kindNumbers k ++ (x ∷ y ∷ []) ≡ splice (kindNumbers k ++ placeNumbers o) 6 (x ∷ y ∷ [])
+kind-place-numbers : (k : NodeKind) (o : Option Place) (x y : Float) → kindNumbers k ++ (x ∷ y ∷ []) ≡ splice (kindNumbers k ++ placeNumbers o) nodeX (x ∷ y ∷ [])
 kind-place-numbers (junction j) none x y = refl
 kind-place-numbers (junction j) (some p) x y = refl
 kind-place-numbers (reservoir r) none x y = refl
@@ -62,7 +63,7 @@ module _ {text : List ℕ} {m : Network} {s : Counts} {w : List ℕ} {f : List F
     pub node-below : i < length (m .nodes)
     node-below = omega (arith, found-below (nodeIds m) (part (id .at) (id .end) text) q, node-count m)
 
-    pub node-room : i < 256
+    pub node-room : i < roomNodes
     node-room = omega (arith, node-below, h .words .known .nodes .bound)
 
     fine : NodeFine text (getD (m .nodes) i noNode)
@@ -77,27 +78,27 @@ module _ {text : List ℕ} {m : Network} {s : Counts} {w : List ℕ} {f : List F
     unfolding setEmitter
     no-junction x t = rw q (not-emitting x (getD (m .nodes) i noNode) (getD (m .nodes) i noNode .kind) t)
 
-    emits : {f1 : List Float} (x : Float) (k : NodeKind) → getD (m .nodes) i noNode .kind ≡ k → isJunction k ≡ true → f1 ≡ splice f (nodeNumbersAt + i * nodeNumbersSize + 1) (x ∷ [])
+    emits : {f1 : List Float} (x : Float) (k : NodeKind) → getD (m .nodes) i noNode .kind ≡ k → isJunction k ≡ true → f1 ≡ splice f (nodeNumbersAt + i * nodeNumbersWidth + junctionEmitter) (x ∷ [])
         → After text (onJunction k (λ j. good (changeNode i (emitting (getD (m .nodes) i noNode) j x) m)) (bad WrongKind)) (Stored s) w f w f1
     emits x (junction j) e t ef =
         let n : Node = getD (m .nodes) i noNode in
-        let held = change-node-numbers h i noNode (emitting n j x) 1 (x ∷ []) node-below (fine .0, tt) refl (emit-words n j x e) (omega arith) (emit-numbers n j x e) ef in
+        let held = change-node-numbers h i noNode (emitting n j x) junctionEmitter (x ∷ []) node-below (fine .0, tt) refl (emit-words n j x e) (omega arith) (emit-numbers n j x e) ef in
         (ap Stored (h .counts ∙ sym (same-count-nodes m i (emitting n j x))), held)
     emits x (reservoir r) e t ef = absurd (let z : _≡_ {A = ℕ} 0 1 = cc in omega arith)
     emits x (tank r) e t ef = absurd (let z : _≡_ {A = ℕ} 0 1 = cc in omega arith)
 
-    pub emitter-set : {f1 : List Float} (x : Float) → isJunction (getD (m .nodes) i noNode .kind) ≡ true → f1 ≡ splice f (nodeNumbersAt + i * nodeNumbersSize + 1) (x ∷ [])
+    pub emitter-set : {f1 : List Float} (x : Float) → isJunction (getD (m .nodes) i noNode .kind) ≡ true → f1 ≡ splice f (nodeNumbersAt + i * nodeNumbersWidth + junctionEmitter) (x ∷ [])
         → After text (setEmitter (nameIn text id) x m) (Stored s) w f w f1
     unfolding setEmitter
     emitter-set x t ef = rw q (emits x (getD (m .nodes) i noNode .kind) refl t ef)
 
-    pub place-set : {w1 : List ℕ} {f1 : List Float} (p : Place) → w1 ≡ splice w (nodesAt + i * nodeSize + 7) (1 ∷ []) → f1 ≡ splice f (nodeNumbersAt + i * nodeNumbersSize + 6) (p .x ∷ p .y ∷ [])
+    pub place-set : {w1 : List ℕ} {f1 : List Float} (p : Place) → w1 ≡ splice w (nodesAt + i * nodesWidth + nodePlaced) (1 ∷ []) → f1 ≡ splice f (nodeNumbersAt + i * nodeNumbersWidth + nodeX) (p .x ∷ p .y ∷ [])
         → After text (setPlace (nameIn text id) p m) (Stored s) w f w1 f1
     unfolding setPlace
     place-set p ew ef =
         let n : Node = getD (m .nodes) i noNode in
         let held =
-        change-node h i noNode (standing n p) 7 (1 ∷ []) 6 (p .x ∷ p .y ∷ []) node-below fine refl (omega arith) (kind-place-word (n .id) (n .kind) (placed (n .place)) 1) (omega arith)
+        change-node h i noNode (standing n p) nodePlaced (1 ∷ []) nodeX (p .x ∷ p .y ∷ []) node-below fine refl (omega arith) (kind-place-word (n .id) (n .kind) (placed (n .place)) 1) (omega arith)
         (kind-place-numbers (n .kind) (n .place) (p .x) (p .y)) ew ef
         in
         rw q (ap Stored (h .counts ∙ sym (same-count-nodes m i (standing n p))), held)

@@ -1,19 +1,18 @@
-// Stores what a line of EMITTERS or COORDINATES says, as placelines reads it: the node is looked up and changed in its place.
+// Stores what a line of EMITTERS says, as placelines reads it, or of COORDINATES, as takers::take_pair does: the node is looked up and changed in its place.
 ghost use Prim.Native.Nat.{_≤_};
 ghost use lib.ListN.{length, take};
 ghost use Rattle.fields.specs.Fields.{fieldsAt, nameIn};
 ghost use Rattle.scope.specs.Records.{Network};
 ghost use Rattle.scope.specs.Nodes.{setEmitter, setPlace, emitterStep, coordinatesStep};
 ghost use Rattle.tables.specs.Holding.{Holds, Sound, After};
-ghost use Rattle.placelines.specs.Lines.{placeIn};
 use placelines::EmitterLine;
 use placelines::EmitterRead;
-use placelines::PlaceLine;
-use placelines::PlaceRead;
 use scope::Counts;
 use scope::Found;
 use scope::Reason;
 use tables::Kept;
+use takers::PairLine;
+use takers::PairRead;
 
 // ---- storing them
 
@@ -36,7 +35,7 @@ fn store_emitter(
     if tables::is_junction(words, i) {
         tables::paste_numbers(
             numbers,
-            tables::NODE_NUMBERS + i * tables::NUMBERS_OF_NODE + 1,
+            tables::NODE_NUMBERS_AT + i * tables::NODE_NUMBERS_WIDTH + tables::JUNCTION_EMITTER,
             &[e.coefficient],
         );
         return Kept::Stored(s);
@@ -44,26 +43,30 @@ fn store_emitter(
     Kept::Refused(Reason::WrongKind)
 }
 
-// The place is the last word and the last two numbers of a node.
+// The place is a word and two numbers of a node, x and then y.
 fn store_coordinates(
     text: &[u8],
-    p: PlaceLine,
+    p: PairLine,
     s: Counts,
     words: &mut [u64],
     numbers: &mut [f64],
 ) -> Kept
     requires { ⌜ Sound (now text) s (now words) (now numbers) ⌝ }
     ensures { λ r. ⌜ ((m : Network) → Holds (now (text .entry)) m s (now (words .entry)) (now (numbers .entry))
-        → After (now (text .entry)) (setPlace (nameIn (now (text .entry)) (p .id)) (placeIn (now (text .entry)) p .at) m) r (now (words .entry)) (now (numbers .entry)) (now (words .exit)) (now (numbers .exit))) ⌝ }
+        → After (now (text .entry)) (setPlace (nameIn (now (text .entry)) (p .id)) (record { x = p .x; y = p .y }) m) r (now (words .entry)) (now (numbers .entry)) (now (words .exit)) (now (numbers .exit))) ⌝ }
 {
     let found = tables::node_named(text, words, s.nodes, p.id);
     let Found::At(i) = found else {
         return Kept::Refused(Reason::NotFound);
     };
-    tables::paste_words(words, tables::NODES + i * tables::NODE_WORDS + 7, &[1]);
+    tables::paste_words(
+        words,
+        tables::NODES_AT + i * tables::NODES_WIDTH + tables::NODE_PLACED,
+        &[1],
+    );
     tables::paste_numbers(
         numbers,
-        tables::NODE_NUMBERS + i * tables::NUMBERS_OF_NODE + 6,
+        tables::NODE_NUMBERS_AT + i * tables::NODE_NUMBERS_WIDTH + tables::NODE_X,
         &[p.x, p.y],
     );
     Kept::Stored(s)
@@ -104,9 +107,9 @@ pub fn coordinates_line(
     ensures { λ r. ⌜ ((m : Network) → Holds (now (text .entry)) m s (now (words .entry)) (now (numbers .entry))
         → After (now (text .entry)) (coordinatesStep (fieldsAt (take end (now (text .entry))) at) m) r (now (words .entry)) (now (numbers .entry)) (now (words .exit)) (now (numbers .exit))) ⌝ }
 {
-    let read = placelines::read_coordinates(&text[..end], at);
+    let read = takers::take_pair(&text[..end], at);
     match read {
-        PlaceRead::Place(p) => store_coordinates(text, p, s, words, numbers),
-        PlaceRead::NoPlace(why) => Kept::Refused(why),
+        PairRead::Pair(p) => store_coordinates(text, p, s, words, numbers),
+        PairRead::NoPair(why) => Kept::Refused(why),
     }
 }

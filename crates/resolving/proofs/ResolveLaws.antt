@@ -10,14 +10,14 @@ use lib.ListN.{length, take, drop, set, getD}
 use lib.Seq.{set-split}
 use lib.Ieee.{Float}
 use Rattle.fields.specs.Fields.{Name}
-use Rattle.scope.specs.Records.{Network, Node, Place, NodeKind, junction, reservoir, tank, Demand, noNode, lookup, withNodes, withDemands}
+use Rattle.scope.specs.Records.{Network, Node, Place, NodeKind, junction, reservoir, tank, Demand, noNode, lookup, withNodes, withDemands, noDemand}
 use Rattle.scope.specs.Series.{placeIn, indexOf, resolvedKind, resolvedNode, resolvedDemand, resolved}
 use Rattle.scope.specs.Tables.{indexNo, nameWords, placed, idWords, nodeWords, nodeNumbers, demandWords}
 use Rattle.scope.specs.declared.Counts.{Counts}
 use Rattle.scope.specs.declared.Found.{Found}
 use Rattle.tables.specs.Table.{splice}
-use Rattle.tables.specs.Layout.{nodesAt, nodeSize, demandsAt, demandSize}
-use Rattle.tables.specs.Holding.{SitsOr, Holds, NodeFine, DemandFine, noDemand, patternIn, kindNo}
+use Rattle.scope.specs.Layout.{namePlace, nameLength, nodesAt, nodesWidth, nodeKind, nodeName, nodeDetail, demandsAt, demandsWidth, demandName, demandIndex}
+use Rattle.tables.specs.Holding.{SitsOr, Holds, NodeFine, DemandFine, patternIn, kindNo}
 use Rattle.tables.proofs.HoldLaws.{each-at, change-node-words, change-demand-words, same-count-nodes, same-count-demands, count-nodes, count-demands}
 use Rattle.tables.proofs.ReadLaws.{demand-word, node-word, node-kind}
 use Rattle.resolving.specs.Resolving.{demandResolved, nodeResolved, demandsResolved, nodesResolved}
@@ -46,16 +46,16 @@ set-splice w i v h = set-split w i v h ∙ rw (add-one) (sym (assoc (take i w) v
     assoc [] v b = refl
     assoc (x ∷ a) v b = ap (λ l. x ∷ l) (assoc a v b)
 
-name-two : (o : Option Name) (i : ℕ) → (getD (nameWords o ++ (i ∷ [])) 0 0 ∷ getD (nameWords o ++ (i ∷ [])) 1 0 ∷ []) ≡ nameWords o
+name-two : (o : Option Name) (i : ℕ) → (getD (nameWords o ++ (i ∷ [])) namePlace 0 ∷ getD (nameWords o ++ (i ∷ [])) nameLength 0 ∷ []) ≡ nameWords o
 name-two none i = refl
 name-two (some n) i = refl
 
 -- ---- a demand
-demand-index : (d : Demand) (ps : List Name) → demandWords (resolvedDemand ps d) ≡ splice (demandWords d) 4 (indexNo (indexOf ps (d .pattern)) ∷ [])
+demand-index : (d : Demand) (ps : List Name) → demandWords (resolvedDemand ps d) ≡ splice (demandWords d) demandIndex (indexNo (indexOf ps (d .pattern)) ∷ [])
 demand-index d ps = go (d .node) (d .own) (d .base) (d .pattern) (d .index)
   where
     go : (a : ℕ) (b : Bool) (x : Float) (o : Option Name) (i : Option ℕ)
-        → demandWords (record { node = a; own = b; base = x; pattern = o; index = indexOf ps o }) ≡ splice (demandWords (record { node = a; own = b; base = x; pattern = o; index = i })) 4 (indexNo (indexOf ps o) ∷ [])
+        → demandWords (record { node = a; own = b; base = x; pattern = o; index = indexOf ps o }) ≡ splice (demandWords (record { node = a; own = b; base = x; pattern = o; index = i })) demandIndex (indexNo (indexOf ps o) ∷ [])
     go a b x none i = refl
     go a b x (some n) i = refl
 
@@ -64,26 +64,29 @@ module _ {text : List ℕ} {m : Network} {s : Counts} {w : List ℕ} {f : List F
     below-demands : k < length (m .demands)
     below-demands = omega (arith, count-demands h)
 
-    pub demand-name : nameWords (getD (m .demands) k noDemand .pattern) ≡ getD w (demandsAt + k * demandSize + 2) 0 ∷ getD w (demandsAt + k * demandSize + 3) 0 ∷ []
+    pub demand-name : nameWords (getD (m .demands) k noDemand .pattern) ≡ getD w (demandsAt + k * demandsWidth + demandName + namePlace) 0 ∷ getD w (demandsAt + k * demandsWidth + demandName + nameLength) 0 ∷ []
     demand-name =
         let d : Demand = getD (m .demands) k noDemand in
-        rw (demand-word (h .words) k 2 noDemand below-demands (omega arith), demand-word (h .words) k 3 noDemand below-demands (omega arith)) (sym (name-two (d .pattern) (indexNo (d .index))))
+        let p : demandsAt + k * demandsWidth + demandName + namePlace ≡ demandsAt + k * demandsWidth + (demandName + namePlace) = omega arith in
+        let l : demandsAt + k * demandsWidth + demandName + nameLength ≡ demandsAt + k * demandsWidth + (demandName + nameLength) = omega arith in
+        rw (p, l, demand-word (h .words) k (demandName + namePlace) noDemand below-demands (omega arith), demand-word (h .words) k (demandName + nameLength) noDemand below-demands (omega arith))
+        (sym (name-two (d .pattern) (indexNo (d .index))))
 
     pub demand-sits : SitsOr text (getD (m .demands) k noDemand .pattern)
     demand-sits = each-at (DemandFine text) (m .demands) k noDemand (h .words .known .demands .fine) below-demands
 
-    pub demand-set : (v : ℕ) → demandsAt + k * demandSize + 4 < length w → v ≡ indexNo (indexOf (m .patterns) (getD (m .demands) k noDemand .pattern)) → Holds text (demandResolved k m) s (set w (demandsAt + k * demandSize + 4) v) f
+    pub demand-set : (v : ℕ) → demandsAt + k * demandsWidth + demandIndex < length w → v ≡ indexNo (indexOf (m .patterns) (getD (m .demands) k noDemand .pattern)) → Holds text (demandResolved k m) s (set w (demandsAt + k * demandsWidth + demandIndex) v) f
     demand-set v room e =
         let d : Demand = getD (m .demands) k noDemand in
         let x : Demand = resolvedDemand (m .patterns) d in
-        let q : demandWords x ≡ splice (demandWords d) 4 (v ∷ []) = rw e (demand-index d (m .patterns)) in
-        let h1 = change-demand-words h k noDemand x 4 (v ∷ []) below-demands demand-sits refl (λ own. own) (omega arith) q refl (set-splice w (demandsAt + k * demandSize + 4) v room) in
-        subst (λ (c : Counts). Holds text (demandResolved k m) c (set w (demandsAt + k * demandSize + 4) v) f) (same-count-demands m k x ∙ sym (h .counts)) h1
+        let q : demandWords x ≡ splice (demandWords d) demandIndex (v ∷ []) = rw e (demand-index d (m .patterns)) in
+        let h1 = change-demand-words h k noDemand x demandIndex (v ∷ []) below-demands demand-sits refl (λ own. own) (omega arith) q refl (set-splice w (demandsAt + k * demandsWidth + demandIndex) v room) in
+        subst (λ (c : Counts). Holds text (demandResolved k m) c (set w (demandsAt + k * demandsWidth + demandIndex) v) f) (same-count-demands m k x ∙ sym (h .counts)) h1
 
 -- ---- a node
 node-index : (ps : List Name) (id : Name) (place : Option Place) (x : Float) (o : Option Name) (i : Option ℕ)
     → nodeWords (record { id = id; kind = reservoir (record { elevation = x; pattern = o; index = indexOf ps o }); place = place })
-    ≡ splice (nodeWords (record { id = id; kind = reservoir (record { elevation = x; pattern = o; index = i }); place = place })) 6 (indexNo (indexOf ps o) ∷ [])
+    ≡ splice (nodeWords (record { id = id; kind = reservoir (record { elevation = x; pattern = o; index = i }); place = place })) nodeDetail (indexNo (indexOf ps o) ∷ [])
 node-index ps id place x none i = refl
 node-index ps id place x (some n) i = refl
 
@@ -91,7 +94,7 @@ module _ (ps : List Name) (id : Name) (place : Option Place) where
   abbrev nodeOf : NodeKind → Node
   nodeOf k = record { id = id; kind = k; place = place }
 
-  words-resolved : (k : NodeKind) → kindNo k ≡ 2 → nodeWords (resolvedNode ps (nodeOf k)) ≡ splice (nodeWords (nodeOf k)) 6 (indexNo (indexOf ps (patternIn k)) ∷ [])
+  words-resolved : (k : NodeKind) → kindNo k ≡ 2 → nodeWords (resolvedNode ps (nodeOf k)) ≡ splice (nodeWords (nodeOf k)) nodeDetail (indexNo (indexOf ps (patternIn k)) ∷ [])
   words-resolved (junction j) e = absurd (omega arith)
   words-resolved (reservoir r) e = node-index ps id place (r .elevation) (r .pattern) (r .index)
   words-resolved (tank t) e = absurd (omega arith)
@@ -106,11 +109,11 @@ module _ (ps : List Name) (id : Name) (place : Option Place) where
   numbers-resolved (reservoir r) = refl
   numbers-resolved (tank t) = refl
 
-  name-in : (k : NodeKind) → kindNo k ≡ 2 → nameWords (patternIn k) ≡ getD (nodeWords (nodeOf k)) 4 0 ∷ getD (nodeWords (nodeOf k)) 5 0 ∷ []
+  name-in : (k : NodeKind) → kindNo k ≡ 2 → nameWords (patternIn k) ≡ getD (nodeWords (nodeOf k)) (nodeName + namePlace) 0 ∷ getD (nodeWords (nodeOf k)) (nodeName + nameLength) 0 ∷ []
   name-in (junction j) e = absurd (omega arith)
   name-in (reservoir r) e = go (r .pattern) (indexNo (r .index))
     where
-      go : (o : Option Name) (i : ℕ) → nameWords o ≡ getD (idWords id ++ (2 ∷ nameWords o ++ (i ∷ [])) ++ (placed place ∷ [])) 4 0 ∷ getD (idWords id ++ (2 ∷ nameWords o ++ (i ∷ [])) ++ (placed place ∷ [])) 5 0 ∷ []
+      go : (o : Option Name) (i : ℕ) → nameWords o ≡ getD (idWords id ++ (2 ∷ nameWords o ++ (i ∷ [])) ++ (placed place ∷ [])) (nodeName + namePlace) 0 ∷ getD (idWords id ++ (2 ∷ nameWords o ++ (i ∷ [])) ++ (placed place ∷ [])) (nodeName + nameLength) 0 ∷ []
       go none i = refl
       go (some n) i = refl
   name-in (tank t) e = absurd (omega arith)
@@ -133,19 +136,22 @@ module _ {text : List ℕ} {m : Network} {s : Counts} {w : List ℕ} {f : List F
   at = getD (m .nodes) k noNode
 
   -- it is no reservoir
-  pub node-kept : (getD w (nodesAt + k * nodeSize + 3) 0 ≡ 2 → ⊥) → Holds text (nodeResolved k m) s w f
+  pub node-kept : (getD w (nodesAt + k * nodesWidth + nodeKind) 0 ≡ 2 → ⊥) → Holds text (nodeResolved k m) s w f
   node-kept n =
       let q : resolvedNode (m .patterns) at ≡ at = same-resolved (m .patterns) (at .id) (at .place) (at .kind) (λ e. n (node-kind (h .words) k below-nodes ∙ e)) in
       let l : set (m .nodes) k (resolvedNode (m .patterns) at) ≡ m .nodes = ap (λ (x : Node). set (m .nodes) k x) q ∙ set-same (m .nodes) k noNode below-nodes in
       subst (λ (xs : List Node). Holds text (withNodes xs m) s w f) (sym l) h
 
-  module _ (two : getD w (nodesAt + k * nodeSize + 3) 0 ≡ 2) where
+  module _ (two : getD w (nodesAt + k * nodesWidth + nodeKind) 0 ≡ 2) where
     kind-two : kindNo (at .kind) ≡ 2
     kind-two = sym (node-kind (h .words) k below-nodes) ∙ two
 
-    pub node-name : nameWords (patternIn (at .kind)) ≡ getD w (nodesAt + k * nodeSize + 4) 0 ∷ getD w (nodesAt + k * nodeSize + 5) 0 ∷ []
+    pub node-name : nameWords (patternIn (at .kind)) ≡ getD w (nodesAt + k * nodesWidth + nodeName + namePlace) 0 ∷ getD w (nodesAt + k * nodesWidth + nodeName + nameLength) 0 ∷ []
     node-name =
-        rw (node-word (h .words) k 4 noNode below-nodes (omega arith), node-word (h .words) k 5 noNode below-nodes (omega arith)) (name-in (m .patterns) (at .id) (at .place) (at .kind) kind-two)
+        let p : nodesAt + k * nodesWidth + nodeName + namePlace ≡ nodesAt + k * nodesWidth + (nodeName + namePlace) = omega arith in
+        let l : nodesAt + k * nodesWidth + nodeName + nameLength ≡ nodesAt + k * nodesWidth + (nodeName + nameLength) = omega arith in
+        rw (p, l, node-word (h .words) k (nodeName + namePlace) noNode below-nodes (omega arith), node-word (h .words) k (nodeName + nameLength) noNode below-nodes (omega arith))
+        (name-in (m .patterns) (at .id) (at .place) (at .kind) kind-two)
 
     fine : NodeFine text at
     fine = each-at (NodeFine text) (m .nodes) k noNode (h .words .known .nodes .fine) below-nodes
@@ -153,13 +159,13 @@ module _ {text : List ℕ} {m : Network} {s : Counts} {w : List ℕ} {f : List F
     pub node-sits : SitsOr text (patternIn (at .kind))
     node-sits = fine .1
 
-    pub node-set : (v : ℕ) → nodesAt + k * nodeSize + 6 < length w → v ≡ indexNo (indexOf (m .patterns) (patternIn (at .kind))) → Holds text (nodeResolved k m) s (set w (nodesAt + k * nodeSize + 6) v) f
+    pub node-set : (v : ℕ) → nodesAt + k * nodesWidth + nodeDetail < length w → v ≡ indexNo (indexOf (m .patterns) (patternIn (at .kind))) → Holds text (nodeResolved k m) s (set w (nodesAt + k * nodesWidth + nodeDetail) v) f
     node-set v room e =
         let x : Node = resolvedNode (m .patterns) at in
         let a : NodeFine text x = (fine .0, rw (pattern-resolved (m .patterns) (at .kind)) (fine .1)) in
-        let q : nodeWords x ≡ splice (nodeWords at) 6 (v ∷ []) = rw e (words-resolved (m .patterns) (at .id) (at .place) (at .kind) kind-two) in
-        let h1 = change-node-words h k noNode x 6 (v ∷ []) below-nodes a refl (omega arith) q (numbers-resolved (m .patterns) (at .id) (at .place) (at .kind)) (set-splice w (nodesAt + k * nodeSize + 6) v room) in
-        subst (λ (c : Counts). Holds text (nodeResolved k m) c (set w (nodesAt + k * nodeSize + 6) v) f) (same-count-nodes m k x ∙ sym (h .counts)) h1
+        let q : nodeWords x ≡ splice (nodeWords at) nodeDetail (v ∷ []) = rw e (words-resolved (m .patterns) (at .id) (at .place) (at .kind) kind-two) in
+        let h1 = change-node-words h k noNode x nodeDetail (v ∷ []) below-nodes a refl (omega arith) q (numbers-resolved (m .patterns) (at .id) (at .place) (at .kind)) (set-splice w (nodesAt + k * nodesWidth + nodeDetail) v room) in
+        subst (λ (c : Counts). Holds text (nodeResolved k m) c (set w (nodesAt + k * nodesWidth + nodeDetail) v) f) (same-count-nodes m k x ∙ sym (h .counts)) h1
 
 -- ---- records one after another: the first k are changed
 unfoldable pub upTo : {A : Type 0} → (A → A) → ℕ → List A → List A

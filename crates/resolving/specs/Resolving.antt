@@ -2,9 +2,8 @@
 use Prim.Native.Nat.{ℕ}
 use mathlib.Core.List.{map}
 use lib.ListN.{set, getD}
-use Rattle.scope.specs.Records.{Network, noNode, withNodes, withDemands}
+use Rattle.scope.specs.Records.{Network, noNode, withNodes, withDemands, noDemand}
 use Rattle.scope.specs.Series.{resolvedNode, resolvedDemand}
-use Rattle.tables.specs.Holding.{noDemand}
 
 -- demand number k, or node number k, with the place of the pattern that it names
 abbrev pub demandResolved : ℕ → Network → Network

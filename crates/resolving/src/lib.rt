@@ -12,6 +12,7 @@ ghost use Rattle.scope.specs.Tables.{nameWords, indexNo};
 ghost use Rattle.tables.specs.Holding.{SitsOr, Words, Holds, Sound};
 ghost use Rattle.resolving.specs.Resolving.{demandResolved, nodeResolved, demandsResolved, nodesResolved};
 use scope::Counts;
+use scope::Kind;
 
 // The place plus one of the pattern that a record names by these words; 0 where it names none, or there is none.
 fn pattern_index(text: &[u8], words: &[u64], patterns: usize, at: u64, long: u64) -> u64
@@ -22,7 +23,7 @@ fn pattern_index(text: &[u8], words: &[u64], patterns: usize, at: u64, long: u64
         return 0;
     }
     let name = letters::cut(text, at as usize, long as usize);
-    tables::index_number(tables::find_pattern(text, words, patterns, name))
+    tables::index_number(tables::find_named(text, words, Kind::Patterns, patterns, name))
 }
 
 fn resolve_demand(text: &[u8], s: Counts, words: &mut [u64], k: usize)
@@ -30,9 +31,16 @@ fn resolve_demand(text: &[u8], s: Counts, words: &mut [u64], k: usize)
     ensures { λ _. ⌜ ((m : Network) (f : List Float) → Holds (now (text .entry)) m s (now (words .entry)) f
         → Holds (now (text .entry)) (demandResolved k m) s (now (words .exit)) f) ⌝ }
 {
-    let row = tables::DEMANDS + k * tables::DEMAND_WORDS;
-    let index = pattern_index(text, words, s.patterns, words[row + 2], words[row + 3]);
-    words[row + 4] = index;
+    let row = tables::DEMANDS_AT + k * tables::DEMANDS_WIDTH;
+    let name = row + tables::DEMAND_NAME;
+    let index = pattern_index(
+        text,
+        words,
+        s.patterns,
+        words[name + tables::NAME_PLACE],
+        words[name + tables::NAME_LENGTH],
+    );
+    words[row + tables::DEMAND_INDEX] = index;
 }
 
 fn resolve_node(text: &[u8], s: Counts, words: &mut [u64], k: usize)
@@ -40,12 +48,20 @@ fn resolve_node(text: &[u8], s: Counts, words: &mut [u64], k: usize)
     ensures { λ _. ⌜ ((m : Network) (f : List Float) → Holds (now (text .entry)) m s (now (words .entry)) f
         → Holds (now (text .entry)) (nodeResolved k m) s (now (words .exit)) f) ⌝ }
 {
-    let row = tables::NODES + k * tables::NODE_WORDS;
-    if words[row + 3] != 2 {
+    let row = tables::NODES_AT + k * tables::NODES_WIDTH;
+    // Only a reservoir names a pattern.
+    if words[row + tables::NODE_KIND] != codes::RESERVOIR {
         return;
     }
-    let index = pattern_index(text, words, s.patterns, words[row + 4], words[row + 5]);
-    words[row + 6] = index;
+    let name = row + tables::NODE_NAME;
+    let index = pattern_index(
+        text,
+        words,
+        s.patterns,
+        words[name + tables::NAME_PLACE],
+        words[name + tables::NAME_LENGTH],
+    );
+    words[row + tables::NODE_DETAIL] = index;
 }
 
 fn resolve_demands(text: &[u8], s: Counts, words: &mut [u64])

@@ -62,7 +62,7 @@ module _ (f : Name) (fs : List Name) where
   unfolding multipliersOf
   no-number (Value y) why e q h = absurd (let z : _≡_ {A = ℕ} 0 1 = cc in omega arith)
   no-number Malformed why e q h = let a : reason.Malformed ≡ why = cc in rw (q, a)
-  no-number Beyond why e q h = let a : reason.Beyond ≡ why = cc in rw (q, a)
+  no-number Beyond why e q h = let a : reason.BeyondReach ≡ why = cc in rw (q, a)
 
 -- how far the loop has come: n multipliers of the fields fs are read, and the first r of them are kept; the fields gs are left, and past those that are kept, the fields hs
 pub record Going (fs gs hs : List Name) (r : ℕ) (first : List Float) (n : ℕ) : Type 0 where

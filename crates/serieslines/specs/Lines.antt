@@ -1,17 +1,13 @@
--- What the lines of this crate's sections say, and the code's answers as that. Assumes nothing.
+-- The code's answers as what scope says of a line of PATTERNS or DEMANDS. Assumes nothing.
 use Prim.Native.Nat.{ℕ}
 use mathlib.Core.Path.{_≡_}
 use mathlib.Core.List.{List}
-use mathlib.Core.Option.{Option}
 use lib.ListN.{length, take, drop}
 use lib.Ieee.{Float}
-use Rattle.fields.specs.Fields.{Name, fieldsAt, nameIn, Fits}
-use Rattle.scope.specs.Values.{Read, good, bad, onRead, onTook, nameFrom, optionalFrom, numberFrom}
-use Rattle.scope.specs.Series.{multipliersOf}
+use Rattle.fields.specs.Fields.{fieldsAt, nameIn, Fits}
+use Rattle.scope.specs.Values.{Read, good, bad}
+use Rattle.scope.specs.Series.{multipliersOf, PatternFields, DemandFields}
 use Rattle.takers.specs.Taking.{optIn, MayFit}
-use Rattle.serieslines.specs.declared.PointLine.{PointLine}
-use Rattle.serieslines.specs.declared.PointRead.{PointRead}
-use Rattle.serieslines.specs.declared.PointRead.the-variants.{Point, NoPoint}
 use Rattle.serieslines.specs.declared.PatternLine.{PatternLine}
 use Rattle.serieslines.specs.declared.PatternRead.{PatternRead}
 use Rattle.serieslines.specs.declared.PatternRead.the-variants.{Pattern, NoPattern}
@@ -21,37 +17,7 @@ use Rattle.serieslines.specs.declared.DemandLine.{DemandLine}
 use Rattle.serieslines.specs.declared.DemandRead.{DemandRead}
 use Rattle.serieslines.specs.declared.DemandRead.the-variants.{Demand, NoDemand}
 
--- ---- a point of a curve
-pub record PointFields : Type 0 where
-  pub id : Name
-  pub x : Float
-  pub y : Float
-
-unfoldable pub pointOf : List Name → Read PointFields
-pointOf fs =
-    onTook (nameFrom fs) (λ id fs.
-    onTook (numberFrom fs) (λ x fs.
-    onTook (numberFrom fs) (λ y fs.
-    good (record { id = id; x = x; y = y }))))
-
-abbrev pub pointIn : List ℕ → PointLine → PointFields
-pointIn l p = record { id = nameIn l (p .id); x = p .x; y = p .y }
-
-abbrev pub PointAs : List ℕ → Read PointFields → PointRead → Type 0
-PointAs l o (Point p) = (o ≡ good (pointIn l p)) × Fits l (p .id)
-PointAs l o (NoPoint why) = o ≡ bad why
-
 -- ---- a pattern's line
-pub record PatternFields : Type 0 where
-  pub id : Name
-  pub values : List Float
-
-unfoldable pub patternOf : List Name → Read PatternFields
-patternOf fs =
-    onTook (nameFrom fs) (λ id fs.
-    onRead (multipliersOf fs) (λ xs.
-    good (record { id = id; values = xs })))
-
 -- the multipliers xs of a line l: how many there are, the first of them, as many as a slice has room for, and the place where the others start
 pub record Multipliers (l : List ℕ) (first : List Float) (count rest : ℕ) (xs : List Float) : Type 0 where
   pub long : length xs ≡ count
@@ -75,18 +41,6 @@ PatternAs l first o (Pattern p) = PatternIs l first o p
 PatternAs l first o (NoPattern why) = o ≡ bad why
 
 -- ---- a demand
-pub record DemandFields : Type 0 where
-  pub id : Name
-  pub base : Float
-  pub pattern : Option Name
-
-unfoldable pub demandOf : List Name → Read DemandFields
-demandOf fs =
-    onTook (nameFrom fs) (λ id fs.
-    onTook (numberFrom fs) (λ x fs.
-    onTook (optionalFrom fs) (λ pattern fs.
-    good (record { id = id; base = x; pattern = pattern }))))
-
 abbrev pub demandIn : List ℕ → DemandLine → DemandFields
 demandIn l d = record { id = nameIn l (d .id); base = d .base; pattern = optIn l (d .pattern) }
 

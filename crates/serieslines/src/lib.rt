@@ -1,23 +1,12 @@
-// Parses a line of CURVES, PATTERNS or DEMANDS.
+// Parses a line of PATTERNS or DEMANDS. A line of CURVES is an id and two numbers: takers::take_pair.
 ghost use Rattle.fields.specs.Fields.{fieldsAt};
-ghost use Rattle.scope.specs.Series.{multipliersOf};
-ghost use Rattle.serieslines.specs.Lines.{pointOf, PointAs, CountedAs, patternOf, PatternAs, demandOf, DemandAs};
+ghost use Rattle.scope.specs.Series.{multipliersOf, patternOf, demandOf};
+ghost use Rattle.serieslines.specs.Lines.{CountedAs, PatternAs, DemandAs};
 use fields::Field;
 use fields::Span;
 use scope::Reason;
 use takers::NextNumber;
 use takers::TookNumber;
-
-pub struct PointLine {
-    pub id: Span,
-    pub x: f64,
-    pub y: f64,
-}
-
-pub enum PointRead {
-    Point(PointLine),
-    NoPoint(Reason),
-}
 
 // A pattern's id, how many multipliers there are, and where those start that do not stand in the caller's slice.
 pub struct PatternLine {
@@ -45,25 +34,6 @@ pub struct DemandLine {
 pub enum DemandRead {
     Demand(DemandLine),
     NoDemand(Reason),
-}
-
-// Id, x, y.
-pub fn read_curve(l: &[u8], at: usize) -> PointRead
-    ensures { λ r. ⌜ PointAs (now (l .entry)) (pointOf (fieldsAt (now (l .entry)) at)) r ⌝ }
-{
-    let f = fields::next_field(l, at);
-    let Field::Taken(id) = f else {
-        return PointRead::NoPoint(Reason::Missing);
-    };
-    let first = takers::take_number(l, id.end);
-    let TookNumber::Number(x, at2) = first else {
-        return PointRead::NoPoint(takers::reason_of(first));
-    };
-    let second = takers::take_number(l, at2);
-    match second {
-        TookNumber::Number(y, _) => PointRead::Point(PointLine { id, x, y }),
-        TookNumber::NoNumber(why) => PointRead::NoPoint(why),
-    }
 }
 
 // How many numbers there are from `at` on, where all fields are numbers. The first of them are put into `first`, as many as it has room for; the place is where the others start.

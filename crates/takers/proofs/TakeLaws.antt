@@ -19,13 +19,12 @@ use Rattle.digits.specs.Ends.{wordLen}
 use Rattle.digits.proofs.Lists.{tail-of}
 use Rattle.fields.specs.Fields.{startAt}
 use Rattle.fields.specs.declared.Span.{Span}
-use Rattle.fields.specs.Fields.{Name, part, nameIn, fieldsAt, rest, lettersOr, Next}
+use Rattle.fields.specs.Fields.{part, nameIn, fieldsAt, rest, lettersOr, Next}
 use Rattle.fields.proofs.FieldLaws.{length-part, skipped, word-over, next-nothing, next-word}
 use Rattle.fields.specs.declared.Field.{Field}
 use Rattle.fields.specs.declared.Field.the-variants.{Taken, Nothing}
 use Rattle.scope.specs.declared.Reason.the-variants as reason
-use Rattle.scope.specs.Values.{Took, took, refused, asNumber, asSwallowed, numberFrom, numberOr, swallowedFrom, optionalFrom}
-use Rattle.takers.specs.declared.TookNumber.{TookNumber}
+use Rattle.scope.specs.Values.{took, refused, asNumber, asSwallowed, numberFrom, numberOr, swallowedFrom, optionalFrom}
 use Rattle.takers.specs.declared.TookNumber.the-variants.{NoNumber}
 use Rattle.takers.specs.declared.NextNumber.{NextNumber}
 use Rattle.takers.specs.declared.NextNumber.the-variants as next
@@ -42,7 +41,7 @@ swallowed-as l d Malformed next = refl
 swallowed-as l d Beyond next = refl
 
 -- neither a value nor malformed
-pub beyond : (d : Float) (n : N.Number) (next : ℕ) → OneOf (1 ∷ 2 ∷ []) (tagOf the-type n) → OneOf (0 ∷ 2 ∷ []) (tagOf the-type n) → NoNumber reason.Beyond ≡ swallowTook d n next
+pub beyond : (d : Float) (n : N.Number) (next : ℕ) → OneOf (1 ∷ 2 ∷ []) (tagOf the-type n) → OneOf (0 ∷ 2 ∷ []) (tagOf the-type n) → NoNumber reason.BeyondReach ≡ swallowTook d n next
 beyond d (Value x) next h k = absurd (miss (1 ∷ 2 ∷ []) 0 tt h)
 beyond d Malformed next h k = absurd (miss (0 ∷ 2 ∷ []) 1 tt k)
 beyond d Beyond next h k = refl

@@ -7,17 +7,20 @@ use lib.Ieee.{Float}
 use Rattle.decimals.specs.declared.Number as N
 use Rattle.decimals.specs.declared.Number.the-variants as number
 use Rattle.decimals.specs.Numbers.{numberOf}
-use Rattle.fields.specs.Fields.{Name, fieldsAt}
+use Rattle.fields.specs.Fields.{Name, fieldsAt, nameIn, Fits}
 pub use Rattle.fields.specs.Fields.{optIn, MayFit}
 use Rattle.scope.specs.declared.Reason.{Reason}
-use Rattle.scope.specs.declared.Reason.the-variants.{Missing, Malformed, Beyond}
-use Rattle.scope.specs.Values.{Took, took, refused}
+use Rattle.scope.specs.declared.Reason.the-variants.{Missing, Malformed, BeyondReach}
+use Rattle.scope.specs.Values.{Took, took, refused, Read, good, bad, PairFields}
 use Rattle.takers.specs.declared.TookNumber.{TookNumber}
 use Rattle.takers.specs.declared.TookNumber.the-variants.{Number, NoNumber}
 use Rattle.takers.specs.declared.NextNumber.{NextNumber}
 use Rattle.takers.specs.declared.NextNumber.the-variants as next
 use Rattle.takers.specs.declared.TookFlag.{TookFlag}
 use Rattle.takers.specs.declared.TookFlag.the-variants.{Flag, NoFlag}
+use Rattle.takers.specs.declared.PairLine.{PairLine}
+use Rattle.takers.specs.declared.PairRead.{PairRead}
+use Rattle.takers.specs.declared.PairRead.the-variants.{Pair, NoPair}
 
 abbrev pub tookNumber : List ℕ → TookNumber → Took Float
 tookNumber l (Number x next) = took x (fieldsAt l next)
@@ -36,13 +39,21 @@ Numbered l at next.Missing = fieldsAt l at ≡ []
 abbrev pub numberTook : N.Number → ℕ → TookNumber
 numberTook (number.Value x) next = Number x next
 numberTook number.Malformed next = NoNumber Malformed
-numberTook number.Beyond next = NoNumber Beyond
+numberTook number.Beyond next = NoNumber BeyondReach
 
 abbrev pub swallowTook : Float → N.Number → ℕ → TookNumber
 swallowTook d (number.Value x) next = Number x next
 swallowTook d number.Malformed next = Number d next
-swallowTook d number.Beyond next = NoNumber Beyond
+swallowTook d number.Beyond next = NoNumber BeyondReach
 
 abbrev pub reasonIn : TookNumber → Reason
 reasonIn (Number x next) = Missing
 reasonIn (NoNumber why) = why
+
+-- ---- an id and two numbers
+abbrev pub pairIn : List ℕ → PairLine → PairFields
+pairIn l p = record { id = nameIn l (p .id); x = p .x; y = p .y }
+
+abbrev pub PairAs : List ℕ → Read PairFields → PairRead → Type 0
+PairAs l o (Pair p) = (o ≡ good (pairIn l p)) × Fits l (p .id)
+PairAs l o (NoPair why) = o ≡ bad why

@@ -1,13 +1,14 @@
-// Takes the next field of a line as a number or a flag. A line is the caller's text up to the line's end, with the place where its next field is looked for:
-// so every place is a place of the text. Names are taken by fields::next_field.
+// Takes the next field of a line as a number or a flag, or an id and two numbers. A line is the caller's text up to the line's end, with the place where its next field
+// is looked for: so every place is a place of the text. Names are taken by fields::next_field.
 ghost use mathlib.Core.Path.{_≡_};
 ghost use Rattle.decimals.specs.Numbers.{numberOf};
 ghost use Rattle.fields.specs.Fields.{fieldsAt};
-ghost use Rattle.scope.specs.Values.{numberFrom, numberOr, swallowedFrom, flagFrom};
-ghost use Rattle.takers.specs.Taking.{tookNumber, tookFlag, numberTook, swallowTook, reasonIn, Numbered};
+ghost use Rattle.scope.specs.Values.{numberFrom, numberOr, swallowedFrom, flagFrom, pairOf};
+ghost use Rattle.takers.specs.Taking.{tookNumber, tookFlag, numberTook, swallowTook, reasonIn, Numbered, PairAs};
 use decimals::Number;
 use decimals::Plain;
 use fields::Field;
+use fields::Span;
 use scope::Reason;
 
 // A number and a place from which on the other fields stand, or why there is none.
@@ -21,13 +22,25 @@ pub enum TookFlag {
     NoFlag(Reason),
 }
 
+// An id and two numbers: what a line of CURVES or of COORDINATES says.
+pub struct PairLine {
+    pub id: Span,
+    pub x: f64,
+    pub y: f64,
+}
+
+pub enum PairRead {
+    Pair(PairLine),
+    NoPair(Reason),
+}
+
 pub fn as_number(n: Number, next: usize) -> TookNumber
     ensures { λ r. ⌜ r ≡ numberTook n next ⌝ }
 {
     match n {
         Number::Value(x) => TookNumber::Number(x, next),
         Number::Malformed => TookNumber::NoNumber(Reason::Malformed),
-        Number::Beyond => TookNumber::NoNumber(Reason::Beyond),
+        Number::Beyond => TookNumber::NoNumber(Reason::BeyondReach),
     }
 }
 
@@ -112,7 +125,7 @@ pub fn swallow(n: Number, other: f64, next: usize) -> TookNumber
 {
     let Number::Value(x) = n else {
         let Number::Malformed = n else {
-            return TookNumber::NoNumber(Reason::Beyond);
+            return TookNumber::NoNumber(Reason::BeyondReach);
         };
         return TookNumber::Number(other, next);
     };
@@ -155,5 +168,24 @@ pub fn reason_of(t: TookNumber) -> Reason
     match t {
         TookNumber::Number(_, _) => Reason::Missing,
         TookNumber::NoNumber(why) => why,
+    }
+}
+
+// Id, x, y.
+pub fn take_pair(l: &[u8], at: usize) -> PairRead
+    ensures { λ r. ⌜ PairAs (now (l .entry)) (pairOf (fieldsAt (now (l .entry)) at)) r ⌝ }
+{
+    let f = fields::next_field(l, at);
+    let Field::Taken(id) = f else {
+        return PairRead::NoPair(Reason::Missing);
+    };
+    let first = take_number(l, id.end);
+    let TookNumber::Number(x, at2) = first else {
+        return PairRead::NoPair(reason_of(first));
+    };
+    let second = take_number(l, at2);
+    match second {
+        TookNumber::Number(y, _) => PairRead::Pair(PairLine { id, x, y }),
+        TookNumber::NoNumber(why) => PairRead::NoPair(why),
     }
 }

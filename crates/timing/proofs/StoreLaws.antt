@@ -1,7 +1,7 @@
 -- What storing a time makes of the network. Assumes nothing.
-use Prim.Native.Nat.{ℕ, _+_, _*_, _<_}
+use Prim.Native.Nat.{ℕ, _<_}
 use native.Mathlib.Omega.{arith}
-use mathlib.Core.Path.{_≡_, refl, sym, ap, _∙_, subst}
+use mathlib.Core.Path.{_≡_, refl, ap, _∙_, subst}
 use mathlib.Core.List.{List}
 use mathlib.Core.Option.{some}
 use lib.Ieee.{Float}
@@ -15,6 +15,7 @@ use Rattle.scope.specs.declared.Found.the-variants.{At}
 use Rattle.scope.specs.declared.Reason.{Reason}
 use Rattle.scope.specs.declared.TimeOption.{TimeOption}
 use Rattle.scope.specs.declared.TimeOption.the-variants.{Duration, HydraulicTimestep, PatternTimestep, ReportTimestep, PatternStart, StartClocktime, Dropped}
+use Rattle.scope.specs.Layout.{roomTimes}
 use Rattle.tables.specs.Holding.{Holds, After, Below}
 use Rattle.tables.specs.declared.Kept.the-variants.{Stored, Refused}
 use Rattle.tables.proofs.HoldLaws.{set-time}
@@ -23,7 +24,7 @@ use Rattle.timing.specs.declared.TimesRead.{TimesRead}
 use Rattle.timing.specs.declared.TimesRead.the-variants.{Timed, NoTime}
 use Rattle.timing.specs.declared.TimeLine.{TimeLine}
 
-place-below : (o : TimeOption) → Below 6 (placeOf o)
+place-below : (o : TimeOption) → Below roomTimes (placeOf o)
 place-below Duration = omega arith
 place-below HydraulicTimestep = omega arith
 place-below PatternTimestep = omega arith
@@ -32,8 +33,8 @@ place-below PatternStart = omega arith
 place-below StartClocktime = omega arith
 place-below Dropped = tt
 
-pub kept-below : (o : TimeOption) {k : ℕ} → placeOf o ≡ At k → k < 6
-kept-below o e = subst (λ (p : Found). Below 6 p) e (place-below o)
+pub kept-below : (o : TimeOption) {k : ℕ} → placeOf o ≡ At k → k < roomTimes
+kept-below o e = subst (λ (p : Found). Below roomTimes p) e (place-below o)
 
 module _ {text : List ℕ} {m : Network} {s : Counts} {w : List ℕ} {f : List Float} (h : Holds text m s w f) where
   after-put : (o : TimeOption) (n : ℕ) {w1 : List ℕ} → w1 ≡ timePut o n w → After text (good (setTime o n m)) (Stored s) w f w1 f

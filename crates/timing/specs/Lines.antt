@@ -12,7 +12,7 @@ use Rattle.scope.specs.declared.Found.the-variants.{At, Nowhere}
 use Rattle.scope.specs.declared.TimeOption.{TimeOption}
 use Rattle.scope.specs.declared.TimeOption.the-variants.{Duration, HydraulicTimestep, PatternTimestep, ReportTimestep, PatternStart, StartClocktime, Dropped}
 use Rattle.tables.specs.Table.{splice}
-use Rattle.tables.specs.Layout.{timesAt, timeSize}
+use Rattle.scope.specs.Layout.{timesAt, timesWidth}
 use Rattle.timing.specs.declared.TimesRead.{TimesRead}
 use Rattle.timing.specs.declared.TimesRead.the-variants.{Timed, NoTime}
 
@@ -40,4 +40,4 @@ placeOf Dropped = Nowhere
 
 -- the words with the option set; "others are read and dropped"
 abbrev pub timePut : TimeOption → ℕ → List ℕ → List ℕ
-timePut o n w = onFound (placeOf o) (λ k. splice w (timesAt + k * timeSize) (countWords (some n))) w
+timePut o n w = onFound (placeOf o) (λ k. splice w (timesAt + k * timesWidth) (countWords (some n))) w

@@ -3,11 +3,11 @@ ghost use mathlib.Core.Path.{_≡_};
 ghost use mathlib.Core.Bool.{_&&_};
 ghost use Prim.Native.Nat.{_≤_};
 ghost use lib.ListN.{length, take};
+ghost use Rattle.scope.specs.Layout.{recordWords};
 ghost use Rattle.fields.specs.Fields.{fieldsAt, nameIn};
 ghost use Rattle.letters.specs.Words.{spelled};
 ghost use Rattle.clock.specs.Times.{hasColon};
 ghost use Rattle.scope.specs.Records.{Network};
-ghost use Rattle.scope.specs.Tables.{recordWords};
 ghost use Rattle.scope.specs.Times.{optionOf, optionOfTwo, joins, secondsFrom, afterOption, timesOf, timesStep};
 ghost use Rattle.tables.specs.Holding.{Holds, Sound, After};
 ghost use Rattle.timing.specs.Lines.{TimesAs, timeFrom, placeOf, timePut};
@@ -108,8 +108,8 @@ fn time_from(option: TimeOption, t: Time) -> TimesRead
     match t {
         Time::Seconds(seconds) => TimesRead::Timed(TimeLine { option, seconds }),
         Time::Malformed => TimesRead::NoTime(Reason::Malformed),
-        Time::Beyond => TimesRead::NoTime(Reason::Beyond),
-        Time::UnknownUnit => TimesRead::NoTime(Reason::Unknown),
+        Time::Beyond => TimesRead::NoTime(Reason::BeyondReach),
+        Time::UnknownUnit => TimesRead::NoTime(Reason::UnknownWord),
     }
 }
 
@@ -184,7 +184,11 @@ fn put_time(words: &mut [u64], option: TimeOption, seconds: u64)
     let Found::At(k) = place else {
         return;
     };
-    tables::paste_words(words, tables::TIMES + k * tables::TIME_WORDS, &[1, seconds]);
+    tables::paste_words(
+        words,
+        tables::TIMES_AT + k * tables::TIMES_WIDTH,
+        &[1, seconds],
+    );
 }
 
 // The line of TIMES from `at` to `end`. It changes no number: each section's line has these parameters.

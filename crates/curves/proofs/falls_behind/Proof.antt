@@ -1,5 +1,4 @@
 -- `curves::falls_behind` meets its contract. Assumes nothing.
-use Prim.Native.Nat.{_-_}
 use native.Mathlib.Omega.{arith}
 use denote.Ref.{now}
 use lib.Ieee.{nan}
@@ -30,14 +29,17 @@ mul-if1 c = omega (arith, c .loop-test .taken, c .before .loop .inv .upto, c .be
 shared-slice-read-if1 : tie.Need-shared-slice-read-if1 Inv-loop μ-loop
 shared-slice-read-if1 c = omega (arith, c .before .loop-test .taken, c .before .before .loop .inv .upto, c .before .before .before .pre .0, c .before .before .before .pre .1, c .before .before .before .pre .2)
 
+mul-row : tie.Need-mul-row Inv-loop μ-loop
+mul-row c = omega (arith, c .before .before .loop-test .taken, c .before .before .before .loop .inv .upto, c .before .before .before .before .pre .0, c .before .before .before .before .pre .1, c .before .before .before .before .pre .2)
+
+add-row : tie.Need-add-row Inv-loop μ-loop
+add-row c = omega (arith, c .before .before .loop-test .taken, c .before .before .before .loop .inv .upto, c .before .before .before .before .pre .0, c .before .before .before .before .pre .1, c .before .before .before .before .pre .2)
+
 mul-result : tie.Need-mul-result Inv-loop μ-loop
 mul-result c = omega (arith, c .before .before .loop-test .taken, c .before .before .before .loop .inv .upto, c .before .before .before .before .pre .0, c .before .before .before .before .pre .1, c .before .before .before .before .pre .2)
 
 add-result : tie.Need-add-result Inv-loop μ-loop
 add-result c = omega (arith, c .before .before .loop-test .taken, c .before .before .before .loop .inv .upto, c .before .before .before .before .pre .0, c .before .before .before .before .pre .1, c .before .before .before .before .pre .2)
-
-mul-result-2 : tie.Need-mul-result-2 Inv-loop μ-loop
-mul-result-2 c = omega (arith, c .before .before .loop-test .taken, c .before .before .before .loop .inv .upto, c .before .before .before .before .pre .0, c .before .before .before .before .pre .1, c .before .before .before .before .pre .2)
 
 shared-slice-read-result : tie.Need-shared-slice-read-result Inv-loop μ-loop
 shared-slice-read-result c = omega (arith, c .before .before .before .loop-test .taken, c .before .before .before .before .loop .inv .upto, c .before .before .before .before .before .pre .0, c .before .before .before .before .before .pre .1, c .before .before .before .before .before .pre .2)
@@ -65,9 +67,10 @@ falls-behind-spec =
     add-if1
     mul-if1
     shared-slice-read-if1
-    mul-result
+    mul-row
+    add-row
     add-result
-    mul-result-2
+    mul-result
     shared-slice-read-result
     returns
     loop-less

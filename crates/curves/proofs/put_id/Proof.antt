@@ -6,17 +6,11 @@ use mathlib.Core.List.{List}
 use lib.ListN.{getD}
 use Rattle.scope.specs.Tables.{slotOf}
 use Rattle.tables.specs.Table.{splice}
-use Rattle.tables.specs.Layout.{idSize}
+use Rattle.scope.specs.Layout.{idWidth}
 use Rattle.tables.proofs.SlotLaws.{mark-alike}
 use borrow.Author.Needs.{needs}
 use Rattle.curves.proofs.put_id.Statement.{statement}
 use Rattle.curves.proofs.put_id.Tie as tie
-use Rattle.curves.proofs.put_id.Reads as reads
-use Rattle.curves.proofs.put_id.Lts as lts
-use Rattle.tables.proofs.id_words.Reads as id-words-reads
-use Rattle.tables.proofs.mark.Reads as mark-reads
-use Rattle.tables.proofs.paste_words.Reads as paste-words-reads
-use Rattle.tables.proofs.slot_of.Reads as slot-of-reads
 
 id-words-requires : tie.Need-id-words-requires
 id-words-requires c κs = search needs
@@ -53,7 +47,7 @@ returns c =
     let a = c .before .before .before .before .before .before .before .before .before .before .before .before .before .args in
     let id = c .before .before .before .before .before .before .before .before .before .before .id-words .ensures in
     mark-alike (a .n + 1) (c .before .before .mark .ensures)
-    (c .before .before .before .before .before .before .before .paste-words .ensures ∙ ap (λ (l : List ℕ). splice (now (a .words)) (a .base + a .n * idSize) l) id)
+    (c .before .before .before .before .before .before .before .paste-words .ensures ∙ ap (λ (l : List ℕ). splice (now (a .words)) (a .base + a .n * idWidth) l) id)
     (ap (λ (k : ℕ). a .slots + k) (c .before .before .before .before .slot-of .ensures ∙ ap (λ (l : List ℕ). slotOf (getD l 2 0)) id))
 
 pub put-id-spec : {M : Type 1} → statement M

@@ -13,23 +13,20 @@ use borrow.Author.Needs.{needs}
 use Rattle.curves.proofs.store_point.Statement.{statement}
 use Rattle.curves.proofs.store_point.Tie as tie
 
-look : (c : tie.After-find-curve) → (m : Network) → Holds (now (c .before .before .before .before .before .before .before .args .text)) m (c .before .before .before .before .before .before .before .args .s) (now (c .before .before .before .before .before .before .before .args .words)) (now (c .before .before .before .before .before .before .before .args .numbers)) → lookup (m .curves) (part (c .before .before .before .before .before .before .before .args .p .id .at) (c .before .before .before .before .before .before .before .args .p .id .end) (now (c .before .before .before .before .before .before .before .args .text))) ≡ c .find-curve .result
-look c = λ m h. sym (c .find-curve .ensures m (h .words) (count-curves h) ∙ ap (lookup (m .curves)) (c .before .letters-of .ensures))
+look : (c : tie.After-find-at) → (m : Network) → Holds (now (c .before .before .before .before .before .before .args .text)) m (c .before .before .before .before .before .before .args .s) (now (c .before .before .before .before .before .before .args .words)) (now (c .before .before .before .before .before .before .args .numbers)) → lookup (m .curves) (part (c .before .before .before .before .before .before .args .p .id .at) (c .before .before .before .before .before .before .args .p .id .end) (now (c .before .before .before .before .before .before .args .text))) ≡ c .find-at .result
+look c = λ m h. sym (c .find-at .ensures m (h .words) (count-curves h))
 
-letters-of-requires : tie.Need-letters-of-requires
-letters-of-requires c κs = search needs
-
-find-curve-requires : tie.Need-find-curve-requires
-find-curve-requires c κs = (c .before .before .before .before .before .before .pre .0 .m, c .before .before .before .before .before .before .pre .0 .holds .words, count-curves (c .before .before .before .before .before .before .pre .0 .holds))
+find-at-requires : tie.Need-find-at-requires
+find-at-requires c κs = (c .before .before .before .before .before .pre .0 .m, c .before .before .before .before .before .pre .0 .holds .words, count-curves (c .before .before .before .before .before .pre .0 .holds))
 
 add-t : tie.Need-add-t
-add-t c = omega (arith, bound-points (c .before .before .before .before .before .before .before .pre .0 .holds))
+add-t c = omega (arith, bound-points (c .before .before .before .before .before .before .pre .0 .holds))
 
 enum-known-found : tie.Need-enum-known-found
 enum-known-found c = search needs
 
 falls-behind-requires : tie.Need-falls-behind-requires
-falls-behind-requires c κs = (bound-points (c .before .before .before .before .before .before .before .before .before .before .before .before .pre .0 .holds), holds-words (c .before .before .before .before .before .before .before .before .before .before .before .before .pre .0 .holds), holds-numbers (c .before .before .before .before .before .before .before .before .before .before .before .before .pre .0 .holds))
+falls-behind-requires c κs = (bound-points (c .before .before .before .before .before .before .before .before .before .before .before .pre .0 .holds), holds-words (c .before .before .before .before .before .before .before .before .before .before .before .pre .0 .holds), holds-numbers (c .before .before .before .before .before .before .before .before .before .before .before .pre .0 .holds))
 
 same-length : tie.Need-same-length
 same-length c = search needs
@@ -38,10 +35,10 @@ same-length-2 : tie.Need-same-length-2
 same-length-2 c = search needs
 
 returns : tie.Need-returns
-returns c = λ m h. falling h (c .before .before .before .before .before .before .before .before .before .before .before .before .before .before .args .p .id) (c .before .before .before .before .before .before .before .before .before .before .before .before .before .before .args .p .x) (c .before .before .before .before .before .before .before .before .before .before .before .before .before .before .args .p .y) _ (look (c .before .before .before .before .before .before .before) m h ∙ c .before .before .before .before .before .found .given .1) (sym (c .before .falls-behind .ensures (now (c .before .before .before .before .before .before .before .before .before .before .before .before .before .before .args .text)) m (h .words) (h .numbers) (count-points h)) ∙ c .if1 .taken)
+returns c = λ m h. falling h (c .before .before .before .before .before .before .before .before .before .before .before .before .before .args .p .id) (c .before .before .before .before .before .before .before .before .before .before .before .before .before .args .p .x) (c .before .before .before .before .before .before .before .before .before .before .before .before .before .args .p .y) _ (look (c .before .before .before .before .before .before .before) m h ∙ c .before .before .before .before .before .found .given .1) (sym (c .before .falls-behind .ensures (now (c .before .before .before .before .before .before .before .before .before .before .before .before .before .args .text)) m (h .words) (h .numbers) (count-points h)) ∙ c .if1 .taken)
 
 put-point-requires : tie.Need-put-point-requires
-put-point-requires c κs = (c .before .before .if2 .taken, holds-words (c .before .before .before .before .before .before .before .before .before .before .before .before .before .before .before .before .before .pre .0 .holds), holds-numbers (c .before .before .before .before .before .before .before .before .before .before .before .before .before .before .before .before .before .pre .0 .holds))
+put-point-requires c κs = (c .before .before .if2 .taken, holds-words (c .before .before .before .before .before .before .before .before .before .before .before .before .before .before .before .before .pre .0 .holds), holds-numbers (c .before .before .before .before .before .before .before .before .before .before .before .before .before .before .before .before .pre .0 .holds))
 
 same-length-3 : tie.Need-same-length-3
 same-length-3 c = search needs
@@ -50,18 +47,18 @@ same-length-4 : tie.Need-same-length-4
 same-length-4 c = search needs
 
 returns-2 : tie.Need-returns-2
-returns-2 c = λ m h. goes-on h (c .before .before .before .before .before .before .before .before .before .before .before .before .before .before .before .before .before .before .before .before .before .before .args .p .id) (c .before .before .before .before .before .before .before .before .before .before .before .before .before .before .before .before .before .before .before .before .before .before .args .p .x) (c .before .before .before .before .before .before .before .before .before .before .before .before .before .before .before .before .before .before .before .before .before .before .args .p .y) _ (look (c .before .before .before .before .before .before .before .before .before .before .before .before .before .before .before) m h ∙ c .before .before .before .before .before .before .before .before .before .before .before .before .before .found .given .1) (sym (c .before .before .before .before .before .before .before .before .before .falls-behind .ensures (now (c .before .before .before .before .before .before .before .before .before .before .before .before .before .before .before .before .before .before .before .before .before .before .args .text)) m (h .words) (h .numbers) (count-points h)) ∙ c .before .before .before .before .before .before .before .before .if1 .left) _ _ (c .before .before .before .before .before .before .before .if2 .taken) (c .before .before .before .before .put-point .ensures .0) (c .before .before .before .before .put-point .ensures .1)
+returns-2 c = λ m h. goes-on h (c .before .before .before .before .before .before .before .before .before .before .before .before .before .before .before .before .before .before .before .before .before .args .p .id) (c .before .before .before .before .before .before .before .before .before .before .before .before .before .before .before .before .before .before .before .before .before .args .p .x) (c .before .before .before .before .before .before .before .before .before .before .before .before .before .before .before .before .before .before .before .before .before .args .p .y) _ (look (c .before .before .before .before .before .before .before .before .before .before .before .before .before .before .before) m h ∙ c .before .before .before .before .before .before .before .before .before .before .before .before .before .found .given .1) (sym (c .before .before .before .before .before .before .before .before .before .falls-behind .ensures (now (c .before .before .before .before .before .before .before .before .before .before .before .before .before .before .before .before .before .before .before .before .before .args .text)) m (h .words) (h .numbers) (count-points h)) ∙ c .before .before .before .before .before .before .before .before .if1 .left) _ _ (c .before .before .before .before .before .before .before .if2 .taken) (c .before .before .before .before .put-point .ensures .0) (c .before .before .before .before .put-point .ensures .1)
 
 enum-told : tie.Need-enum-told
 enum-told c = search needs
 
 put-id-requires : tie.Need-put-id-requires
-put-id-requires c κs = (c .before .before .if3 .taken, omega arith, omega arith, holds-words (c .before .before .before .before .before .before .before .before .before .before .before .before .pre .0 .holds))
+put-id-requires c κs = (c .before .before .if3 .taken, omega arith, omega arith, holds-words (c .before .before .before .before .before .before .before .before .before .before .before .pre .0 .holds))
 
 put-point-requires-2 : tie.Need-put-point-requires-2
 put-point-requires-2 c κs =
-    let h = c .before .before .before .before .before .before .before .before .before .before .before .before .before .before .before .before .before .pre .0 .holds in
-    let long : length (c .before .before .before .before .put-id .last .1 .1 .1 .1 .1 .0) ≡ length (now (c .before .before .before .before .before .before .before .before .before .before .before .before .before .before .before .before .before .args .words)) = c .before .before .before .before .put-id .kept .1 .1 .1 .1 .1 .0 in
+    let h = c .before .before .before .before .before .before .before .before .before .before .before .before .before .before .before .before .pre .0 .holds in
+    let long : length (c .before .before .before .before .put-id .last .1 .1 .1 .1 .1 .0) ≡ length (now (c .before .before .before .before .before .before .before .before .before .before .before .before .before .before .before .before .args .words)) = c .before .before .before .before .put-id .kept .1 .1 .1 .1 .1 .0 in
     (c .before .before .before .before .before .before .if4 .taken, long ∙ holds-words h, holds-numbers h)
 
 add-t-2 : tie.Need-add-t-2
@@ -75,8 +72,8 @@ same-length-6 c = search needs
 
 returns-3 : tie.Need-returns-3
 returns-3 c = λ m h.
-    let a = c .before .before .before .before .before .before .before .before .before .before .before .before .before .before .before .before .before .before .before .before .before .before .args in
-    starts h (a .p .id) (a .p .x) (a .p .y) _ _ _ (look (c .before .before .before .before .before .before .before .before .before .before .before .before .before .before .before) m h ∙ c .before .before .before .before .before .before .before .before .before .before .before .before .before .enum-told .given .1) (c .before .before .before .before .before .before .before .before .before .before .before .before .before .before .before .before .before .before .before .before .before .before .pre .1) (c .before .before .before .before .before .before .before .before .before .before .before .before .if3 .taken) (c .before .before .before .before .before .before .before .before .before .before .before .if4 .taken)
+    let a = c .before .before .before .before .before .before .before .before .before .before .before .before .before .before .before .before .before .before .before .before .before .args in
+    starts h (a .p .id) (a .p .x) (a .p .y) _ _ _ (look (c .before .before .before .before .before .before .before .before .before .before .before .before .before .before .before) m h ∙ c .before .before .before .before .before .before .before .before .before .before .before .before .before .enum-told .given .1) (c .before .before .before .before .before .before .before .before .before .before .before .before .before .before .before .before .before .before .before .before .before .pre .1) (c .before .before .before .before .before .before .before .before .before .before .before .before .if3 .taken) (c .before .before .before .before .before .before .before .before .before .before .before .if4 .taken)
     (c .before .before .before .before .before .before .before .before .before .put-id .ensures) (c .before .before .before .before .put-point2 .ensures .0) (c .before .before .before .before .put-point2 .ensures .1)
 
 same-length-7 : tie.Need-same-length-7
@@ -86,26 +83,25 @@ same-length-8 : tie.Need-same-length-8
 same-length-8 c = search needs
 
 returns-4 : tie.Need-returns-4
-returns-4 c = λ m h. points-full h (c .before .before .before .before .before .before .before .before .before .before .before .before .before .before .before .args .p .id) (c .before .before .before .before .before .before .before .before .before .before .before .before .before .before .before .args .p .x) (c .before .before .before .before .before .before .before .before .before .before .before .before .before .before .before .args .p .y) _ (look (c .before .before .before .before .before .before .before .before) m h ∙ c .before .before .before .before .before .before .found .given .1) (sym (c .before .before .falls-behind .ensures (now (c .before .before .before .before .before .before .before .before .before .before .before .before .before .before .before .args .text)) m (h .words) (h .numbers) (count-points h)) ∙ c .before .if1 .left) (c .if2 .left)
+returns-4 c = λ m h. points-full h (c .before .before .before .before .before .before .before .before .before .before .before .before .before .before .args .p .id) (c .before .before .before .before .before .before .before .before .before .before .before .before .before .before .args .p .x) (c .before .before .before .before .before .before .before .before .before .before .before .before .before .before .args .p .y) _ (look (c .before .before .before .before .before .before .before .before) m h ∙ c .before .before .before .before .before .before .found .given .1) (sym (c .before .before .falls-behind .ensures (now (c .before .before .before .before .before .before .before .before .before .before .before .before .before .before .args .text)) m (h .words) (h .numbers) (count-points h)) ∙ c .before .if1 .left) (c .if2 .left)
 
 same-length-9 : tie.Need-same-length-9
 same-length-9 c = search needs
 
 returns-5 : tie.Need-returns-5
-returns-5 c = λ m h. no-room h (c .before .before .before .before .before .before .before .before .before .before .before .args .p .id) (c .before .before .before .before .before .before .before .before .before .before .before .args .p .x) (c .before .before .before .before .before .before .before .before .before .before .before .args .p .y) (look (c .before .before .before .before) m h ∙ c .before .before .enum-told .given .1) (c .if4 .left)
+returns-5 c = λ m h. no-room h (c .before .before .before .before .before .before .before .before .before .before .args .p .id) (c .before .before .before .before .before .before .before .before .before .before .args .p .x) (c .before .before .before .before .before .before .before .before .before .before .args .p .y) (look (c .before .before .before .before) m h ∙ c .before .before .enum-told .given .1) (c .if4 .left)
 
 same-length-10 : tie.Need-same-length-10
 same-length-10 c = search needs
 
 returns-6 : tie.Need-returns-6
-returns-6 c = λ m h. curves-full h (c .before .before .before .before .before .before .before .before .before .before .args .p .id) (c .before .before .before .before .before .before .before .before .before .before .args .p .x) (c .before .before .before .before .before .before .before .before .before .before .args .p .y) (look (c .before .before .before) m h ∙ c .before .enum-told .given .1) (c .if3 .left)
+returns-6 c = λ m h. curves-full h (c .before .before .before .before .before .before .before .before .before .args .p .id) (c .before .before .before .before .before .before .before .before .before .args .p .x) (c .before .before .before .before .before .before .before .before .before .args .p .y) (look (c .before .before .before) m h ∙ c .before .enum-told .given .1) (c .if3 .left)
 
 pub store-point-spec : {M : Type 1} → statement M
 store-point-spec =
     tie.close
     (tie.spec
-    letters-of-requires
-    find-curve-requires
+    find-at-requires
     add-t
     enum-known-found
     falls-behind-requires

@@ -1,24 +1,23 @@
 -- `demands::demand_line` meets its contract. Assumes nothing.
 use denote.Ref.{now}
-use mathlib.Core.Path.{_≡_, refl, sym, subst}
+use mathlib.Core.Path.{_≡_, refl, sym}
 use lib.ListN.{take}
 use lib.Seq.{length-take-le}
 use Rattle.fields.specs.Fields.{fieldsAt, Fits}
 use Rattle.scope.specs.Values.{good, bad}
+use Rattle.scope.specs.Series.{demandOf, demandStep}
 use Rattle.takers.specs.Taking.{MayFit}
-use Rattle.takers.proofs.TextLaws.{fits-text, may-fit-text}
-use Rattle.serieslines.specs.Lines.{demandOf, DemandAs, demandIn}
-use Rattle.serieslines.specs.declared.DemandRead.{DemandRead}
-use Rattle.demands.proofs.StepLaws.{demand-good, demand-bad}
+use Rattle.serieslines.specs.Lines.{demandIn}
+use Rattle.demands.proofs.LineLaws.{demand-told}
 use borrow.Author.Needs.{needs}
 use Rattle.demands.proofs.demand_line.Statement.{statement}
 use Rattle.demands.proofs.demand_line.Tie as tie
 
-is-read : (c : tie.After-known-told) → (demandOf (fieldsAt (take (c .before .before .before .before .before .before .before .before .args .end) (now (c .before .before .before .before .before .before .before .before .args .text))) (c .before .before .before .before .before .before .before .before .args .at)) ≡ good (demandIn (take (c .before .before .before .before .before .before .before .before .args .end) (now (c .before .before .before .before .before .before .before .before .args .text))) (c .before .read .given .0 .0))) × Fits (take (c .before .before .before .before .before .before .before .before .args .end) (now (c .before .before .before .before .before .before .before .before .args .text))) (c .before .read .given .0 .0 .id) × MayFit (take (c .before .before .before .before .before .before .before .before .args .end) (now (c .before .before .before .before .before .before .before .before .args .text))) (c .before .read .given .0 .0 .pattern)
-is-read c = subst (λ (x : DemandRead). DemandAs (take (c .before .before .before .before .before .before .before .before .args .end) (now (c .before .before .before .before .before .before .before .before .args .text))) (demandOf (fieldsAt (take (c .before .before .before .before .before .before .before .before .args .end) (now (c .before .before .before .before .before .before .before .before .args .text))) (c .before .before .before .before .before .before .before .before .args .at))) x) (c .before .read .given .1) (c .before .before .before .read-demand .ensures)
+is-read : (c : tie.After-known-told) → (demandOf (fieldsAt (take (c .before .before .before .before .before .before .before .before .args .end) (now (c .before .before .before .before .before .before .before .before .args .text))) (c .before .before .before .before .before .before .before .before .args .at)) ≡ good (demandIn (now (c .before .before .before .before .before .before .before .before .args .text)) (c .before .read .given .0 .0))) × Fits (now (c .before .before .before .before .before .before .before .before .args .text)) (c .before .read .given .0 .0 .id) × MayFit (now (c .before .before .before .before .before .before .before .before .args .text)) (c .before .read .given .0 .0 .pattern)
+is-read c = demand-told (now (c .before .before .before .before .before .before .before .before .args .text)) (c .before .before .before .before .before .before .before .before .args .end) _ (c .before .read .given .1) (c .before .before .before .read-demand .ensures)
 
 no-read : (c : tie.After-known-told2) → demandOf (fieldsAt (take (c .before .before .before .before .before .before .before .before .args .end) (now (c .before .before .before .before .before .before .before .before .args .text))) (c .before .before .before .before .before .before .before .before .args .at)) ≡ bad (c .before .read2 .given .0 .0)
-no-read c = subst (λ (x : DemandRead). DemandAs (take (c .before .before .before .before .before .before .before .before .args .end) (now (c .before .before .before .before .before .before .before .before .args .text))) (demandOf (fieldsAt (take (c .before .before .before .before .before .before .before .before .args .end) (now (c .before .before .before .before .before .before .before .before .args .text))) (c .before .before .before .before .before .before .before .before .args .at))) x) (c .before .read2 .given .1) (c .before .before .before .read-demand .ensures)
+no-read c = demand-told (now (c .before .before .before .before .before .before .before .before .args .text)) (c .before .before .before .before .before .before .before .before .args .end) _ (c .before .read2 .given .1) (c .before .before .before .read-demand .ensures)
 
 slice-aggregate-read-demand : tie.Need-slice-aggregate-read-demand
 slice-aggregate-read-demand c = sym (length-take-le (c .before .before .before .before .args .end) (now (c .before .before .before .before .args .text)) (c .before .before .before .before .pre .1))
@@ -30,7 +29,7 @@ enum-known-read : tie.Need-enum-known-read
 enum-known-read c = search needs
 
 store-demand-requires : tie.Need-store-demand-requires
-store-demand-requires c κs = (c .before .before .before .before .before .before .before .before .before .before .pre .0, fits-text (now (c .before .before .before .before .before .before .before .before .before .before .args .text)) (c .before .before .before .before .before .before .before .before .before .before .args .end) (c .before .before .before .read .given .0 .0 .id) (is-read (c .before .before) .1), may-fit-text (now (c .before .before .before .before .before .before .before .before .before .before .args .text)) (c .before .before .before .before .before .before .before .before .before .before .args .end) (c .before .before .before .read .given .0 .0 .pattern) (is-read (c .before .before) .2))
+store-demand-requires c κs = (c .before .before .before .before .before .before .before .before .before .before .pre .0, is-read (c .before .before) .1, is-read (c .before .before) .2)
 
 enum-known-read-2 : tie.Need-enum-known-read-2
 enum-known-read-2 c = search needs
@@ -42,10 +41,12 @@ same-length-2 : tie.Need-same-length-2
 same-length-2 c = search needs
 
 returns : tie.Need-returns
-returns c = λ m h. rw (demand-good (now (c .before .before .before .before .before .before .before .before .before .before .before .before .before .before .before .args .text)) (c .before .before .before .before .before .before .before .before .before .before .before .before .before .before .before .args .end) (c .before .before .before .before .before .before .before .before .before .before .before .before .before .before .before .args .at) m (c .before .before .before .before .before .before .before .before .read .given .0 .0) (is-read (c .before .before .before .before .before .before .before) .0) (is-read (c .before .before .before .before .before .before .before) .1) (is-read (c .before .before .before .before .before .before .before) .2)) (c .before .before .before .before .store-demand .ensures m h)
+unfolding demandStep
+returns c = λ m h. rw (is-read (c .before .before .before .before .before .before .before) .0) (c .before .before .before .before .store-demand .ensures m h)
 
 returns-2 : tie.Need-returns-2
-returns-2 c = λ m h. rw (demand-bad (now (c .before .before .before .before .before .before .before .before .args .text)) (c .before .before .before .before .before .before .before .before .args .end) (c .before .before .before .before .before .before .before .before .args .at) m _ (no-read c)) (refl, refl, refl)
+unfolding demandStep
+returns-2 c = λ m h. rw (no-read c) (refl, refl, refl)
 
 pub demand-line-spec : {M : Type 1} → statement M
 demand-line-spec =

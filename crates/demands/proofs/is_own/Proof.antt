@@ -10,6 +10,9 @@ mul-row c = omega (arith, c .pre .0, c .pre .1)
 add-row : tie.Need-add-row
 add-row c = omega (arith, c .pre .0, c .pre .1)
 
+add-if1 : tie.Need-add-if1
+add-if1 c = omega (arith, c .pre .0, c .pre .1)
+
 mul-if1 : tie.Need-mul-if1
 mul-if1 c = omega (arith, c .pre .0, c .pre .1)
 
@@ -37,6 +40,7 @@ is-own-spec =
     (tie.spec
     mul-row
     add-row
+    add-if1
     mul-if1
     shared-slice-read-if1
     add-result

@@ -7,10 +7,6 @@ use Rattle.demands.proofs.DemandLaws.{own-found, first-not-own, none-in
 use borrow.Author.Needs.{needs}
 use Rattle.demands.proofs.own_demand.Statement.{statement}
 use Rattle.demands.proofs.own_demand.Tie as tie
-use Rattle.demands.proofs.own_demand.Reads as reads
-use Rattle.demands.proofs.own_demand.Lts as lts
-use Rattle.demands.proofs.is_own.Reads as is-own-reads
-use Rattle.tables.proofs.first_in_slot.Reads as first-in-slot-reads
 
 add-first-in-slot : tie.Need-add-first-in-slot
 add-first-in-slot c = search needs

@@ -5,7 +5,7 @@ use denote.Ref.{now}
 use mathlib.Core.Path.{ap, _∙_}
 use mathlib.Core.List.{List}
 use Rattle.tables.specs.Table.{splice}
-use Rattle.tables.specs.Layout.{demandsAt, demandSize}
+use Rattle.scope.specs.Layout.{demandsAt, demandsWidth}
 use Rattle.demands.proofs.DemandLaws.{demand-words, words-two}
 use borrow.Author.Needs.{needs}
 use Rattle.demands.proofs.put_demand.Statement.{statement}
@@ -48,7 +48,7 @@ same-length-2 : tie.Need-same-length-2
 same-length-2 c = search needs
 
 returns : tie.Need-returns
-returns c = (c .before .before .before .before .before .before .before .paste-words .ensures ∙ ap (λ (l : List ℕ). splice (now (c .before .before .before .before .before .before .before .before .before .before .before .before .before .before .args .words)) (demandsAt + c .before .before .before .before .before .before .before .before .before .before .before .before .before .before .args .k * demandSize) l) (demand-words (now (c .before .before .before .before .before .before .before .before .before .before .before .before .before .before .args .text)) (c .before .before .before .before .before .before .before .before .before .before .before .before .before .before .args .node) (c .before .before .before .before .before .before .before .before .before .before .before .before .before .before .args .d .base) (c .before .before .before .before .before .before .before .before .before .before .before .before .before .before .args .d .pattern) (c .before .before .before .before .before .before .before .before .before .before .name-words .result) (c .before .before .before .before .before .before .before .before .before .before .name-words .ensures)), c .before .before .paste-numbers .ensures)
+returns c = (c .before .before .before .before .before .before .before .paste-words .ensures ∙ ap (λ (l : List ℕ). splice (now (c .before .before .before .before .before .before .before .before .before .before .before .before .before .before .args .words)) (demandsAt + c .before .before .before .before .before .before .before .before .before .before .before .before .before .before .args .k * demandsWidth) l) (demand-words (now (c .before .before .before .before .before .before .before .before .before .before .before .before .before .before .args .text)) (c .before .before .before .before .before .before .before .before .before .before .before .before .before .before .args .node) (c .before .before .before .before .before .before .before .before .before .before .before .before .before .before .args .d .base) (c .before .before .before .before .before .before .before .before .before .before .before .before .before .before .args .d .pattern) (c .before .before .before .before .before .before .before .before .before .before .name-words .result) (c .before .before .before .before .before .before .before .before .before .before .name-words .ensures)), c .before .before .paste-numbers .ensures)
 
 pub put-demand-spec : {M : Type 1} → statement M
 put-demand-spec =

@@ -5,10 +5,11 @@ use lib.ListN.{take}
 use lib.Seq.{length-take-le}
 use Rattle.fields.specs.Fields.{fieldsAt}
 use Rattle.scope.specs.Values.{bad}
+use Rattle.scope.specs.Series.{patternOf, patternStep}
 use Rattle.takers.proofs.TextLaws.{fits-text}
-use Rattle.serieslines.specs.Lines.{patternOf, PatternAs, PatternIs}
+use Rattle.serieslines.specs.Lines.{PatternAs, PatternIs}
 use Rattle.serieslines.specs.declared.PatternRead.{PatternRead}
-use Rattle.patterns.proofs.StepLaws.{pattern-good, pattern-bad}
+use Rattle.patterns.proofs.LineLaws.{pattern-text}
 use borrow.Author.Needs.{needs}
 use Rattle.patterns.proofs.pattern_line.Statement.{statement}
 use Rattle.patterns.proofs.pattern_line.Tie as tie
@@ -47,10 +48,12 @@ same-length-2 : tie.Need-same-length-2
 same-length-2 c = search needs
 
 returns : tie.Need-returns
-returns c = λ m h. let r = is-read (c .before .before .before .before .before .before .before .before) in rw (pattern-good (now (c .before .before .before .before .before .before .before .before .before .before .before .before .before .before .before .before .before .before .args .text)) (c .before .before .before .before .before .before .before .before .before .before .before .before .before .before .before .before .before .before .args .end) (c .before .before .before .before .before .before .before .before .before .before .before .before .before .before .before .before .before .before .args .at) m (c .before .before .before .before .before .before .before .before .before .read .given .0 .0 .id) (r .values) (r .whole) (r .fits)) (c .before .before .before .before .store-pattern .ensures m (r .values) h (r .read))
+unfolding patternStep
+returns c = λ m h. let r = is-read (c .before .before .before .before .before .before .before .before) in rw (pattern-text (now (c .before .before .before .before .before .before .before .before .before .before .before .before .before .before .before .before .before .before .args .text)) (c .before .before .before .before .before .before .before .before .before .before .before .before .before .before .before .before .before .before .args .end) (r .whole) (r .fits)) (c .before .before .before .before .store-pattern .ensures m (r .values) h (r .read))
 
 returns-2 : tie.Need-returns-2
-returns-2 c = λ m h. rw (pattern-bad (now (c .before .before .before .before .before .before .before .before .before .before .args .text)) (c .before .before .before .before .before .before .before .before .before .before .args .end) (c .before .before .before .before .before .before .before .before .before .before .args .at) m _ (no-read c)) (refl, refl, refl)
+unfolding patternStep
+returns-2 c = λ m h. rw (no-read c) (refl, refl, refl)
 
 pub pattern-line-spec : {M : Type 1} → statement M
 pattern-line-spec =

@@ -6,6 +6,7 @@ use denote.Ref.{now}
 use mathlib.Core.Path.{_≡_, sym, ap, _∙_}
 use lib.ListN.{length}
 use Rattle.fields.specs.Fields.{fieldsAt}
+use Rattle.scope.specs.Sections.{roomMultipliers}
 use Rattle.scope.specs.Values.{took, numberFrom}
 use Rattle.takers.specs.Taking.{tookNumber}
 use Rattle.patterns.proofs.StoringLaws.{took-one, Storing, start-storing, room-for, turn, ended}
@@ -23,7 +24,7 @@ abbrev μ-loop : tie.MeasureT-loop
 one : (c : tie.After-known-told Inv-loop μ-loop) → numberFrom (fieldsAt (now (c .before .before .before .before .before .before .before .before .args .l)) (c .before .before .before .before .loop .p)) ≡ took (c .before .t .given .0 .0) (fieldsAt (now (c .before .before .before .before .before .before .before .before .args .l)) (c .before .t .given .0 .1 .0))
 one c = sym (c .before .before .before .take-number .ensures) ∙ ap (tookNumber (now (c .before .before .before .before .before .before .before .before .args .l))) (c .before .t .given .1)
 
-room : (c : tie.After-known-told Inv-loop μ-loop) → c .before .before .before .before .loop .i < 2048
+room : (c : tie.After-known-told Inv-loop μ-loop) → c .before .before .before .before .loop .i < roomMultipliers
 room c = room-for (c .before .before .before .before .loop .inv) _ _ (one c)
 
 loop-holds : tie.Need-loop-holds Inv-loop μ-loop

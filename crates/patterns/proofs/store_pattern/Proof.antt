@@ -15,47 +15,44 @@ use borrow.Author.Needs.{needs}
 use Rattle.patterns.proofs.store_pattern.Statement.{statement}
 use Rattle.patterns.proofs.store_pattern.Tie as tie
 
-fit : (c : tie.Else1) → c .before .before .before .before .before .before .before .before .before .before .args .s .multipliers + length (c .before .before .before .before .before .before .before .before .before .before .pre .2 .0) ≤ roomMultipliers
-fit c = omega (arith, c .if1 .left, c .before .before .before .before .before .before .before .before .before .before .pre .2 .1 .long)
+fit : (c : tie.Else1) → c .before .before .before .before .before .before .before .before .before .args .s .multipliers + length (c .before .before .before .before .before .before .before .before .before .pre .2 .0) ≤ roomMultipliers
+fit c = omega (arith, c .if1 .left, c .before .before .before .before .before .before .before .before .before .pre .2 .1 .long)
 
-look : (c : tie.After-find-pattern) → (m : Network) → Holds (now (c .before .before .before .before .before .before .before .before .before .args .text)) m (c .before .before .before .before .before .before .before .before .before .args .s) (now (c .before .before .before .before .before .before .before .before .before .args .words)) (now (c .before .before .before .before .before .before .before .before .before .args .numbers)) → lookup (m .patterns) (part (c .before .before .before .before .before .before .before .before .before .args .p .id .at) (c .before .before .before .before .before .before .before .before .before .args .p .id .end) (now (c .before .before .before .before .before .before .before .before .before .args .text))) ≡ c .find-pattern .result
-look c = λ m h. sym (c .find-pattern .ensures m (h .words) (count-patterns h) ∙ ap (lookup (m .patterns)) (c .before .letters-of .ensures))
+look : (c : tie.After-find-at) → (m : Network) → Holds (now (c .before .before .before .before .before .before .before .before .args .text)) m (c .before .before .before .before .before .before .before .before .args .s) (now (c .before .before .before .before .before .before .before .before .args .words)) (now (c .before .before .before .before .before .before .before .before .args .numbers)) → lookup (m .patterns) (part (c .before .before .before .before .before .before .before .before .args .p .id .at) (c .before .before .before .before .before .before .before .before .args .p .id .end) (now (c .before .before .before .before .before .before .before .before .args .text))) ≡ c .find-at .result
+look c = λ m h. sym (c .find-at .ensures m (h .words) (count-patterns h))
 
-letters-of-requires : tie.Need-letters-of-requires
-letters-of-requires c κs = search needs
-
-find-pattern-requires : tie.Need-find-pattern-requires
-find-pattern-requires c κs = (c .before .before .before .before .before .before .before .before .pre .0 .m, c .before .before .before .before .before .before .before .before .pre .0 .holds .words, count-patterns (c .before .before .before .before .before .before .before .before .pre .0 .holds))
+find-at-requires : tie.Need-find-at-requires
+find-at-requires c κs = (c .before .before .before .before .before .before .before .pre .0 .m, c .before .before .before .before .before .before .before .pre .0 .holds .words, count-patterns (c .before .before .before .before .before .before .before .pre .0 .holds))
 
 add-if1 : tie.Need-add-if1
-add-if1 c = omega (arith, count-le (c .before .before .before .before .before .before .before .before .before .pre .2 .1), bound-multipliers (c .before .before .before .before .before .before .before .before .before .pre .0 .holds))
+add-if1 c = omega (arith, count-le (c .before .before .before .before .before .before .before .before .pre .2 .1), bound-multipliers (c .before .before .before .before .before .before .before .before .pre .0 .holds))
 
 same-length : tie.Need-same-length
 same-length c = search needs
 
 returns : tie.Need-returns
-returns c = λ m xs h g. values-full h (c .before .before .before .before .before .before .before .before .before .before .args .p .id) xs (omega (arith, g .long, c .if1 .taken))
+returns c = λ m xs h g. values-full h (c .before .before .before .before .before .before .before .before .before .args .p .id) xs (omega (arith, g .long, c .if1 .taken))
 
 add-t : tie.Need-add-t
-add-t c = omega (arith, count-le (c .before .before .before .before .before .before .before .before .before .before .pre .2 .1), bound-multipliers (c .before .before .before .before .before .before .before .before .before .before .pre .0 .holds))
+add-t c = omega (arith, count-le (c .before .before .before .before .before .before .before .before .before .pre .2 .1), bound-multipliers (c .before .before .before .before .before .before .before .before .before .pre .0 .holds))
 
 enum-known-found : tie.Need-enum-known-found
 enum-known-found c = search needs
 
 put-multipliers-requires : tie.Need-put-multipliers-requires
-put-multipliers-requires c κs = (c .before .before .before .before .before .before .before .before .before .before .before .before .before .before .before .pre .2 .0, c .before .before .before .before .before .before .before .before .before .before .before .before .before .before .before .pre .2 .1, fit (c .before .before .before .before .before), holds-words (c .before .before .before .before .before .before .before .before .before .before .before .before .before .before .before .pre .0 .holds), holds-numbers (c .before .before .before .before .before .before .before .before .before .before .before .before .before .before .before .pre .0 .holds))
+put-multipliers-requires c κs = (c .before .before .before .before .before .before .before .before .before .before .before .before .before .before .pre .2 .0, c .before .before .before .before .before .before .before .before .before .before .before .before .before .before .pre .2 .1, fit (c .before .before .before .before .before), holds-words (c .before .before .before .before .before .before .before .before .before .before .before .before .before .before .pre .0 .holds), holds-numbers (c .before .before .before .before .before .before .before .before .before .before .before .before .before .before .pre .0 .holds))
 
 enum-told : tie.Need-enum-told
 enum-told c = search needs
 
 put-id-requires : tie.Need-put-id-requires
-put-id-requires c κs = (c .before .if2 .taken, omega arith, omega arith, holds-words (c .before .before .before .before .before .before .before .before .before .before .before .before .before .before .pre .0 .holds))
+put-id-requires c κs = (c .before .if2 .taken, omega arith, omega arith, holds-words (c .before .before .before .before .before .before .before .before .before .before .before .before .before .pre .0 .holds))
 
 put-multipliers-requires-2 : tie.Need-put-multipliers-requires-2
 put-multipliers-requires-2 c κs =
-    let p = c .before .before .before .before .before .before .before .before .before .before .before .before .before .before .before .before .before .before .before .pre in
+    let p = c .before .before .before .before .before .before .before .before .before .before .before .before .before .before .before .before .before .before .pre in
     let h = p .0 .holds in
-    let long : length (c .before .before .before .before .put-id .last .1 .1 .1 .1 .1 .0) ≡ length (now (c .before .before .before .before .before .before .before .before .before .before .before .before .before .before .before .before .before .before .before .args .words)) = c .before .before .before .before .put-id .kept .1 .1 .1 .1 .1 .0 in
+    let long : length (c .before .before .before .before .put-id .last .1 .1 .1 .1 .1 .0) ≡ length (now (c .before .before .before .before .before .before .before .before .before .before .before .before .before .before .before .before .before .before .args .words)) = c .before .before .before .before .put-id .kept .1 .1 .1 .1 .1 .0 in
     (p .2 .0, p .2 .1, fit (c .before .before .before .before .before .before .before .before .before), long ∙ holds-words h, holds-numbers h)
 
 add-t-2 : tie.Need-add-t-2
@@ -69,7 +66,7 @@ same-length-3 c = search needs
 
 returns-2 : tie.Need-returns-2
 returns-2 c =
-    λ m xs h g. let s = c .before .before .before .before .before .before .before .before .before .before .before .before .before .before .before .before .before .before .before .before .before .before .before .before in
+    λ m xs h g. let s = c .before .before .before .before .before .before .before .before .before .before .before .before .before .before .before .before .before .before .before .before .before .before .before in
     let n = g .long in
     rw (← n)
     (starts h (s .args .p .id) xs (omega (arith, n, c .before .before .before .before .before .before .before .before .before .before .before .before .before .before .if1 .left)) _ _ _ (look (c .before .before .before .before .before .before .before .before .before .before .before .before .before .before .before) m h ∙ c .before .before .before .before .before .before .before .before .before .before .before .before .enum-told .given .1) (s .pre .1) (c .before .before .before .before .before .before .before .before .before .before .before .if2 .taken)
@@ -84,21 +81,20 @@ same-length-5 c = search needs
 returns-3 : tie.Need-returns-3
 returns-3 c =
     λ m xs h g. rw (← (g .long))
-    (goes-on h (c .before .before .before .before .before .before .before .before .before .before .before .before .before .before .before .before .before .before .before .before .args .p .id) xs (omega (arith, g .long, c .before .before .before .before .before .before .before .before .before .before .if1 .left)) _ _ _ (look (c .before .before .before .before .before .before .before .before .before .before .before) m h ∙ c .before .before .before .before .before .before .before .before .found .given .1)
+    (goes-on h (c .before .before .before .before .before .before .before .before .before .before .before .before .before .before .before .before .before .before .before .args .p .id) xs (omega (arith, g .long, c .before .before .before .before .before .before .before .before .before .before .if1 .left)) _ _ _ (look (c .before .before .before .before .before .before .before .before .before .before .before) m h ∙ c .before .before .before .before .before .before .before .before .found .given .1)
     (c .before .before .before .before .put-multipliers .ensures xs g .0) (c .before .before .before .before .put-multipliers .ensures xs g .1))
 
 same-length-6 : tie.Need-same-length-6
 same-length-6 c = search needs
 
 returns-4 : tie.Need-returns-4
-returns-4 c = λ m xs h g. patterns-full h (c .before .before .before .before .before .before .before .before .before .before .before .before .before .args .p .id) xs (look (c .before .before .before .before) m h ∙ c .before .enum-told .given .1) (c .if2 .left)
+returns-4 c = λ m xs h g. patterns-full h (c .before .before .before .before .before .before .before .before .before .before .before .before .args .p .id) xs (look (c .before .before .before .before) m h ∙ c .before .enum-told .given .1) (c .if2 .left)
 
 pub store-pattern-spec : {M : Type 1} → statement M
 store-pattern-spec =
     tie.close
     (tie.spec
-    letters-of-requires
-    find-pattern-requires
+    find-at-requires
     add-if1
     same-length
     returns

@@ -3,14 +3,10 @@ use mathlib.Core.Path.{_≡_, sym, ap, _∙_}
 use mathlib.Core.List.{_∷_}
 use Rattle.fields.specs.Fields.{Fits, fieldsAt, nameIn}
 use Rattle.takers.specs.Taking.{tookNumber}
-use Rattle.placelines.specs.Lines.{emitterOf}
+use Rattle.scope.specs.Nodes.{emitterOf}
 use borrow.Author.Needs.{needs}
 use Rattle.placelines.proofs.read_emitter.Statement.{statement}
 use Rattle.placelines.proofs.read_emitter.Tie as tie
-use Rattle.placelines.proofs.read_emitter.Reads as reads
-use Rattle.placelines.proofs.read_emitter.Lts as lts
-use Rattle.fields.proofs.next_field.Reads as next-field-reads
-use Rattle.takers.proofs.take_number.Reads as take-number-reads
 
 s1 : (c : tie.After-known-told) → (fieldsAt (now (c .before .before .before .before .before .args .l)) (c .before .before .before .before .before .args .at) ≡ nameIn (now (c .before .before .before .before .before .args .l)) (c .before .f .given .0 .0) ∷ fieldsAt (now (c .before .before .before .before .before .args .l)) (c .before .f .given .0 .0 .end)) × Fits (now (c .before .before .before .before .before .args .l)) (c .before .f .given .0 .0)
 s1 c = c .before .before .before .next-field .ensures .taken _ (c .before .f .given .1)

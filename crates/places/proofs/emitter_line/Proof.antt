@@ -1,17 +1,11 @@
 use denote.Ref.{now}
 use mathlib.Core.Path.{refl, sym}
-use lib.ListN.{take}
 use lib.Seq.{length-take-le}
-use Rattle.fields.specs.Fields.{fieldsAt}
-use Rattle.placelines.specs.Lines.{emitterOf}
-use Rattle.places.proofs.LineLaws.{emitter-told, emitter-good, emitter-bad}
+use Rattle.scope.specs.Nodes.{emitterStep}
+use Rattle.places.proofs.LineLaws.{emitter-told}
 use borrow.Author.Needs.{needs}
 use Rattle.places.proofs.emitter_line.Statement.{statement}
 use Rattle.places.proofs.emitter_line.Tie as tie
-use Rattle.places.proofs.emitter_line.Reads as reads
-use Rattle.places.proofs.emitter_line.Lts as lts
-use Rattle.placelines.proofs.read_emitter.Reads as read-emitter-reads
-use Rattle.places.proofs.store_emitter.Reads as store-emitter-reads
 
 slice-aggregate-read-emitter : tie.Need-slice-aggregate-read-emitter
 slice-aggregate-read-emitter c = sym (length-take-le (c .before .before .before .before .args .end) (now (c .before .before .before .before .args .text)) (c .before .before .before .before .pre .1))
@@ -35,10 +29,12 @@ same-length-2 : tie.Need-same-length-2
 same-length-2 c = search needs
 
 returns : tie.Need-returns
-returns c = λ m h. let b = emitter-told (now (c .before .before .before .before .before .before .before .before .before .before .before .before .before .before .before .args .text)) (c .before .before .before .before .before .before .before .before .before .before .before .before .before .before .before .args .end) (emitterOf (fieldsAt (take (c .before .before .before .before .before .before .before .before .before .before .before .before .before .before .before .args .end) (now (c .before .before .before .before .before .before .before .before .before .before .before .before .before .before .before .args .text))) (c .before .before .before .before .before .before .before .before .before .before .before .before .before .before .before .args .at))) (c .before .before .before .before .before .before .before .before .read .given .1) (c .before .before .before .before .before .before .before .before .before .before .read-emitter .ensures) in rw (emitter-good (fieldsAt (take (c .before .before .before .before .before .before .before .before .before .before .before .before .before .before .before .args .end) (now (c .before .before .before .before .before .before .before .before .before .before .before .before .before .before .before .args .text))) (c .before .before .before .before .before .before .before .before .before .before .before .before .before .before .before .args .at)) m (b .0)) (c .before .before .before .before .store-emitter .ensures m h)
+unfolding emitterStep
+returns c = λ m h. rw (emitter-told (now (c .before .before .before .before .before .before .before .before .before .before .before .before .before .before .before .args .text)) (c .before .before .before .before .before .before .before .before .before .before .before .before .before .before .before .args .end) _ (c .before .before .before .before .before .before .before .before .read .given .1) (c .before .before .before .before .before .before .before .before .before .before .read-emitter .ensures) .0) (c .before .before .before .before .store-emitter .ensures m h)
 
 returns-2 : tie.Need-returns-2
-returns-2 c = λ m h. rw (emitter-bad (fieldsAt (take (c .before .before .before .before .before .before .before .before .args .end) (now (c .before .before .before .before .before .before .before .before .args .text))) (c .before .before .before .before .before .before .before .before .args .at)) m (emitter-told (now (c .before .before .before .before .before .before .before .before .args .text)) (c .before .before .before .before .before .before .before .before .args .end) (emitterOf (fieldsAt (take (c .before .before .before .before .before .before .before .before .args .end) (now (c .before .before .before .before .before .before .before .before .args .text))) (c .before .before .before .before .before .before .before .before .args .at))) (c .before .read2 .given .1) (c .before .before .before .read-emitter .ensures))) (refl, refl, refl)
+unfolding emitterStep
+returns-2 c = λ m h. rw (emitter-told (now (c .before .before .before .before .before .before .before .before .args .text)) (c .before .before .before .before .before .before .before .before .args .end) _ (c .before .read2 .given .1) (c .before .before .before .read-emitter .ensures)) (refl, refl, refl)
 
 pub emitter-line-spec : {M : Type 1} → statement M
 emitter-line-spec =

@@ -6,11 +6,6 @@ use Rattle.places.proofs.ChangeLaws.{no-place, node-room, place-set}
 use borrow.Author.Needs.{needs}
 use Rattle.places.proofs.store_coordinates.Statement.{statement}
 use Rattle.places.proofs.store_coordinates.Tie as tie
-use Rattle.places.proofs.store_coordinates.Reads as reads
-use Rattle.places.proofs.store_coordinates.Lts as lts
-use Rattle.tables.proofs.node_named.Reads as node-named-reads
-use Rattle.tables.proofs.paste_numbers.Reads as paste-numbers-reads
-use Rattle.tables.proofs.paste_words.Reads as paste-words-reads
 
 node-named-requires : tie.Need-node-named-requires
 node-named-requires c κs = (c .before .before .before .before .pre .m, c .before .before .before .before .pre .holds .words, count-nodes (c .before .before .before .before .pre .holds))

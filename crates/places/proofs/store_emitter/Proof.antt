@@ -7,11 +7,6 @@ use Rattle.places.proofs.ChangeLaws.{no-emitter, node-below, node-room,
 use borrow.Author.Needs.{needs}
 use Rattle.places.proofs.store_emitter.Statement.{statement}
 use Rattle.places.proofs.store_emitter.Tie as tie
-use Rattle.places.proofs.store_emitter.Reads as reads
-use Rattle.places.proofs.store_emitter.Lts as lts
-use Rattle.tables.proofs.node_named.Reads as node-named-reads
-use Rattle.tables.proofs.is_junction.Reads as is-junction-reads
-use Rattle.tables.proofs.paste_numbers.Reads as paste-numbers-reads
 
 node-named-requires : tie.Need-node-named-requires
 node-named-requires c κs = (c .before .before .before .before .pre .m, c .before .before .before .before .pre .holds .words, count-nodes (c .before .before .before .before .pre .holds))

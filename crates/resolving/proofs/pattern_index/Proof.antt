@@ -14,15 +14,15 @@ returns c = λ m o hw e st q. no-letters (now (c .before .before .before .args .
 cut-requires : tie.Need-cut-requires
 cut-requires c κs = search needs
 
-find-pattern-requires : tie.Need-find-pattern-requires
-find-pattern-requires c κs = c .before .before .before .before .pre
+find-named-requires : tie.Need-find-named-requires
+find-named-requires c κs = c .before .before .before .before .pre
 
 index-number-requires : tie.Need-index-number-requires
-index-number-requires c κs = below-bound (c .before .before .before .before .before .pre .0 .patterns) _ 65536 _ (c .find-pattern .ensures (c .before .before .before .before .before .pre .0) (c .before .before .before .before .before .pre .1) (c .before .before .before .before .before .pre .2)) (omega (arith, c .before .before .before .before .before .pre .1 .known .patterns .bound))
+index-number-requires c κs = below-bound (c .before .before .before .before .before .pre .0 .patterns) _ 65536 _ (c .find-named .ensures (c .before .before .before .before .before .pre .0) (c .before .before .before .before .before .pre .1) (c .before .before .before .before .before .pre .2)) (omega (arith, c .before .before .before .before .before .pre .1 .known .patterns .bound))
 
 returns-2 : tie.Need-returns-2
-returns-2 c = λ m o hw e st q. c .index-number .ensures ∙ some-letters (now (c .before .before .before .before .before .before .args .text)) (m .patterns) o (c .before .before .before .before .before .before .args .at) (c .before .before .before .before .before .before .args .long) _ _ st q (c .before .before .before .if1 .left) (c .before .before .cut .ensures) (c .before .find-pattern .ensures m hw e)
+returns-2 c = λ m o hw e st q. c .index-number .ensures ∙ some-letters (now (c .before .before .before .before .before .before .args .text)) (m .patterns) o (c .before .before .before .before .before .before .args .at) (c .before .before .before .before .before .before .args .long) _ _ st q (c .before .before .before .if1 .left) (c .before .before .cut .ensures) (c .before .find-named .ensures m hw e)
 
 pub pattern-index-spec : {M : Type 1} → statement M
 pattern-index-spec =
-    tie.close (tie.spec returns cut-requires find-pattern-requires index-number-requires returns-2)
+    tie.close (tie.spec returns cut-requires find-named-requires index-number-requires returns-2)

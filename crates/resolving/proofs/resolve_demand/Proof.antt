@@ -1,9 +1,9 @@
 -- `resolving::resolve_demand` meets its contract. Assumes nothing.
 use native.Mathlib.Omega.{arith}
 use lib.ListN.{getD}
+use Rattle.scope.specs.Records.{noDemand}
 use Rattle.tables.proofs.HoldLaws.{count-patterns, bound-demands}
 use Rattle.tables.proofs.AfterLaws.{sound-words}
-use Rattle.tables.specs.Holding.{noDemand}
 use Rattle.resolving.proofs.ResolveLaws.{demand-name, demand-sits, demand-set}
 use borrow.Author.Needs.{needs}
 use Rattle.resolving.proofs.resolve_demand.Statement.{statement}
@@ -14,6 +14,9 @@ mul-row c = omega (arith, c .before .before .pre .2, bound-demands (c .before .b
 
 add-row : tie.Need-add-row
 add-row c = omega (arith, c .before .before .pre .2, bound-demands (c .before .before .pre .1 .holds), sound-words (c .before .before .pre .1))
+
+add-name : tie.Need-add-name
+add-name c = omega (arith, c .before .before .pre .2, bound-demands (c .before .before .pre .1 .holds), sound-words (c .before .before .pre .1))
 
 add-pattern-index : tie.Need-add-pattern-index
 add-pattern-index c = omega (arith, c .before .before .before .pre .2, bound-demands (c .before .before .before .pre .1 .holds), sound-words (c .before .before .before .pre .1))
@@ -59,6 +62,7 @@ resolve-demand-spec =
     (tie.spec
     mul-row
     add-row
+    add-name
     add-pattern-index
     mul-pattern-index
     slice-reshared-read-pattern-index

@@ -28,6 +28,9 @@ slice-read-if1 c = omega (arith, c .before .before .before .pre .2, bound-nodes 
 returns : tie.Need-returns
 returns c = λ m f h. node-kept h (c .before .before .before .before .args .k) (c .before .before .before .before .pre .2) (c .if1 .taken)
 
+add-name : tie.Need-add-name
+add-name c = omega (arith, c .before .before .before .before .pre .2, bound-nodes (c .before .before .before .before .pre .1 .holds), sound-words (c .before .before .before .before .pre .1))
+
 add-pattern-index : tie.Need-add-pattern-index
 add-pattern-index c = omega (arith, c .before .before .before .before .before .pre .2, bound-nodes (c .before .before .before .before .before .pre .1 .holds), sound-words (c .before .before .before .before .before .pre .1))
 
@@ -76,6 +79,7 @@ resolve-node-spec =
     mul-if1
     slice-read-if1
     returns
+    add-name
     add-pattern-index
     mul-pattern-index
     slice-reshared-read-pattern-index

@@ -4,9 +4,9 @@ use mathlib.Core.Path.{_≡_, sym, ap, _∙_}
 use mathlib.Core.List.{_∷_}
 use Rattle.fields.specs.Fields.{Fits, fieldsAt, nameIn}
 use Rattle.scope.specs.Values.{took, bad, numberFrom}
+use Rattle.scope.specs.Series.{demandOf}
 use Rattle.takers.specs.Taking.{tookNumber, reasonIn}
 use Rattle.takers.proofs.TakeLaws.{may-fit, optional}
-use Rattle.serieslines.specs.Lines.{demandOf}
 use borrow.Author.Needs.{needs}
 use Rattle.serieslines.proofs.read_demand.Statement.{statement}
 use Rattle.serieslines.proofs.read_demand.Tie as tie

@@ -5,8 +5,8 @@ use mathlib.Core.List.{List, _∷_}
 use lib.Ieee.{Float}
 use Rattle.fields.specs.Fields.{Fits, fieldsAt, nameIn}
 use Rattle.scope.specs.Values.{good, bad}
-use Rattle.scope.specs.Series.{multipliersOf}
-use Rattle.serieslines.specs.Lines.{patternOf, Multipliers, CountedAs}
+use Rattle.scope.specs.Series.{multipliersOf, patternOf}
+use Rattle.serieslines.specs.Lines.{Multipliers, CountedAs}
 use Rattle.serieslines.specs.declared.Counted.{Counted}
 use borrow.Author.Needs.{needs}
 use Rattle.serieslines.proofs.read_pattern.Statement.{statement}

@@ -1,8 +1,6 @@
 use borrow.Author.Needs.{needs}
 use Rattle.takers.proofs.as_number.Statement.{statement}
 use Rattle.takers.proofs.as_number.Tie as tie
-use Rattle.takers.proofs.as_number.Reads as reads
-use Rattle.takers.proofs.as_number.Lts as lts
 
 enum-known-n : tie.Need-enum-known-n
 enum-known-n c = search needs

@@ -2,8 +2,6 @@ use Rattle.takers.proofs.TakeLaws.{beyond}
 use borrow.Author.Needs.{needs}
 use Rattle.takers.proofs.swallow.Statement.{statement}
 use Rattle.takers.proofs.swallow.Tie as tie
-use Rattle.takers.proofs.swallow.Reads as reads
-use Rattle.takers.proofs.swallow.Lts as lts
 
 enum-known-n : tie.Need-enum-known-n
 enum-known-n c = search needs

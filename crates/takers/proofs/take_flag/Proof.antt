@@ -1,15 +1,10 @@
 use denote.Ref.{now}
-use mathlib.Core.Path.{_≡_, refl, sym, ap, _∙_}
+use mathlib.Core.Path.{_≡_, sym, _∙_}
 use mathlib.Core.List.{_∷_}
 use Rattle.fields.specs.Fields.{fieldsAt, nameIn}
 use borrow.Author.Needs.{needs}
 use Rattle.takers.proofs.take_flag.Statement.{statement}
 use Rattle.takers.proofs.take_flag.Tie as tie
-use Rattle.takers.proofs.take_flag.Reads as reads
-use Rattle.takers.proofs.take_flag.Lts as lts
-use Rattle.letters.proofs.equal.Reads as equal-reads
-use Rattle.fields.proofs.letters_of.Reads as letters-of-reads
-use Rattle.fields.proofs.next_field.Reads as next-field-reads
 
 field : (c : tie.After-known-told) → fieldsAt (now (c .before .before .before .before .before .args .l)) (c .before .before .before .before .before .args .at) ≡ nameIn (now (c .before .before .before .before .before .args .l)) (c .before .f .given .0 .0) ∷ fieldsAt (now (c .before .before .before .before .before .args .l)) (c .before .f .given .0 .0 .end)
 field c = c .before .before .before .next-field .ensures .taken _ (c .before .f .given .1) .0

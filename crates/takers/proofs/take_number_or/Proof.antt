@@ -1,6 +1,6 @@
 -- `takers::take_number_or` meets its contract. Assumes nothing.
 use denote.Ref.{now}
-use mathlib.Core.Path.{_≡_, ap, _∙_}
+use mathlib.Core.Path.{ap, _∙_}
 use Rattle.takers.specs.Taking.{tookNumber}
 use Rattle.takers.proofs.TakeLaws.{took-part, took-other}
 use borrow.Author.Needs.{needs}

@@ -1,18 +1,13 @@
+-- `takers::take_pair` meets its contract. Assumes nothing.
 use denote.Ref.{now}
 use mathlib.Core.Path.{_≡_, sym, ap, _∙_}
 use mathlib.Core.List.{_∷_}
 use Rattle.fields.specs.Fields.{Fits, fieldsAt, nameIn}
-use Rattle.scope.specs.Values.{took, bad, numberFrom}
+use Rattle.scope.specs.Values.{took, bad, numberFrom, pairOf}
 use Rattle.takers.specs.Taking.{tookNumber, reasonIn}
-use Rattle.placelines.specs.Lines.{placeOf}
 use borrow.Author.Needs.{needs}
-use Rattle.placelines.proofs.read_coordinates.Statement.{statement}
-use Rattle.placelines.proofs.read_coordinates.Tie as tie
-use Rattle.placelines.proofs.read_coordinates.Reads as reads
-use Rattle.placelines.proofs.read_coordinates.Lts as lts
-use Rattle.fields.proofs.next_field.Reads as next-field-reads
-use Rattle.takers.proofs.reason_of.Reads as reason-of-reads
-use Rattle.takers.proofs.take_number.Reads as take-number-reads
+use Rattle.takers.proofs.take_pair.Statement.{statement}
+use Rattle.takers.proofs.take_pair.Tie as tie
 
 s1 : (c : tie.After-known-told) → (fieldsAt (now (c .before .before .before .before .before .args .l)) (c .before .before .before .before .before .args .at) ≡ nameIn (now (c .before .before .before .before .before .args .l)) (c .before .f .given .0 .0) ∷ fieldsAt (now (c .before .before .before .before .before .args .l)) (c .before .f .given .0 .0 .end)) × Fits (now (c .before .before .before .before .before .args .l)) (c .before .f .given .0 .0)
 s1 c = c .before .before .before .next-field .ensures .taken _ (c .before .f .given .1)
@@ -30,7 +25,7 @@ enum-told : tie.Need-enum-told
 enum-told c = search needs
 
 returns : tie.Need-returns
-unfolding placeOf
+unfolding pairOf
 returns c = rw (c .before .before .next-field .ensures .nothing (c .enum-told .given .1))
 
 take-number-requires : tie.Need-take-number-requires
@@ -46,7 +41,7 @@ reason-of-requires : tie.Need-reason-of-requires
 reason-of-requires c κs = search needs
 
 returns-2 : tie.Need-returns-2
-unfolding placeOf
+unfolding pairOf
 returns-2 c = rw (s1 (c .before .before .before .before) .0, sym (c .before .before .before .take-number .ensures) ∙ ap (tookNumber (now (c .before .before .before .before .before .before .before .before .before .args .l))) (c .before .enum-told2 .given .1)) (ap bad (sym (c .reason-of .ensures ∙ ap reasonIn (c .before .enum-told2 .given .1))))
 
 take-number-requires-2 : tie.Need-take-number-requires-2
@@ -59,15 +54,15 @@ enum-known-second-2 : tie.Need-enum-known-second-2
 enum-known-second-2 c = search needs
 
 returns-3 : tie.Need-returns-3
-unfolding placeOf
+unfolding pairOf
 returns-3 c = (rw (s1 (c .before .before .before .before .before .before .before .before) .0, s2 (c .before .before .before .before), sym (c .before .before .before .take-number2 .ensures) ∙ ap (tookNumber (now (c .before .before .before .before .before .before .before .before .before .before .before .before .before .args .l))) (c .before .second .given .1)), s1 (c .before .before .before .before .before .before .before .before) .1)
 
 returns-4 : tie.Need-returns-4
-unfolding placeOf
+unfolding pairOf
 returns-4 c = rw (s1 (c .before .before .before .before .before .before .before .before) .0, s2 (c .before .before .before .before), sym (c .before .before .before .take-number2 .ensures) ∙ ap (tookNumber (now (c .before .before .before .before .before .before .before .before .before .before .before .before .before .args .l))) (c .before .second2 .given .1))
 
-pub read-coordinates-spec : {M : Type 1} → statement M
-read-coordinates-spec =
+pub take-pair-spec : {M : Type 1} → statement M
+take-pair-spec =
     tie.close
     (tie.spec
     next-field-requires
