@@ -1,6 +1,8 @@
 // What one clause adds to the counts of closings, openings, activations and settings.
 ghost use mathlib.Core.Path.{_≡_};
 ghost use mathlib.Core.Bool.{_&&_};
+ghost use Prim.Native.Nat.{_-_};
+ghost use Rattle.scope.specs.Sections.{roomClauses};
 ghost use Rattle.actions.specs.Steps.{isBranch, isAt, Few, withStatus, withMove, withClause};
 use scope::Action;
 use scope::LinkStatus;
@@ -46,7 +48,7 @@ fn is_chosen(a: Action, which: Which, otherwise: bool) -> bool
 }
 
 fn with_status(n: Moves, status: LinkStatus) -> Moves
-    requires { ⌜ Few 511 n ⌝ }
+    requires { ⌜ Few (roomClauses - 1) n ⌝ }
     ensures { λ r. ⌜ r ≡ withStatus n status ⌝ }
 {
     let mut next = n;
@@ -65,7 +67,7 @@ fn with_status(n: Moves, status: LinkStatus) -> Moves
 }
 
 fn with_move(n: Moves, value: Value) -> Moves
-    requires { ⌜ Few 511 n ⌝ }
+    requires { ⌜ Few (roomClauses - 1) n ⌝ }
     ensures { λ r. ⌜ r ≡ withMove n value ⌝ }
 {
     match value {
@@ -81,7 +83,7 @@ fn with_move(n: Moves, value: Value) -> Moves
 
 // The counts with what a clause adds to them.
 pub fn with_clause(n: Moves, clause: Clause, which: Which, otherwise: bool) -> Moves
-    requires { ⌜ Few 511 n ⌝ }
+    requires { ⌜ Few (roomClauses - 1) n ⌝ }
     ensures { λ r. ⌜ r ≡ withClause which otherwise n clause ⌝ }
 {
     if let Clause::Action(a) = clause {

@@ -4,15 +4,15 @@ use mathlib.Core.Path.{_≡_}
 use mathlib.Core.List.{List, _∷_}
 use lib.ListN.{length}
 use Rattle.fields.specs.Fields.{Name, fieldsAt, nameIn, Fits}
+use Rattle.scope.specs.declared.Pipe.{Pipe}
+use Rattle.scope.specs.declared.Pump.{Pump}
+use Rattle.scope.specs.declared.Valve.{Valve}
+use Rattle.scope.specs.declared.LinkKind.{LinkKind}
+use Rattle.scope.specs.declared.LinkKind.the-variants as kind
 use Rattle.scope.specs.Records as records
 use Rattle.scope.specs.Values.{Read, good, bad}
 use Rattle.scope.specs.Links as scope
 use Rattle.takers.specs.Taking.{optIn, MayFit}
-use Rattle.linklines.specs.declared.Pipe.{Pipe}
-use Rattle.linklines.specs.declared.Pump.{Pump}
-use Rattle.linklines.specs.declared.Valve.{Valve}
-use Rattle.linklines.specs.declared.LinkKind.{LinkKind}
-use Rattle.linklines.specs.declared.LinkKind.the-variants.{PipeKind, PumpKind, ValveKind}
 use Rattle.linklines.specs.declared.LinkNames.{LinkNames}
 use Rattle.linklines.specs.declared.NamesRead.{NamesRead}
 use Rattle.linklines.specs.declared.NamesRead.the-variants.{Names, NoNames}
@@ -39,18 +39,18 @@ abbrev pub pumpIn : List ℕ → Pump → records.Pump
 pumpIn l p = record { speed = p .speed; head = optIn l (p .head); power = p .power }
 
 abbrev pub valveIn : List ℕ → Valve → records.Valve
-valveIn l v = record { type = v .kind; diameter = v .diameter; setting = v .setting; minor = v .minor; curve = optIn l (v .curve) }
+valveIn l v = record { type = v .«valve_type»; diameter = v .diameter; setting = v .setting; minor = v .minor; curve = optIn l (v .curve) }
 
 abbrev pub kindIn : List ℕ → LinkKind → records.LinkKind
-kindIn l (PipeKind p) = records.pipe (pipeIn p)
-kindIn l (PumpKind p) = records.pump (pumpIn l p)
-kindIn l (ValveKind v) = records.valve (valveIn l v)
+kindIn l (kind.Pipe p) = records.pipe (pipeIn p)
+kindIn l (kind.Pump p) = records.pump (pumpIn l p)
+kindIn l (kind.Valve v) = records.valve (valveIn l v)
 
 -- its curve, where it has one, lies in l
 abbrev pub KindFits : List ℕ → LinkKind → Type 0
-KindFits l (PipeKind p) = Unit
-KindFits l (PumpKind p) = MayFit l (p .head)
-KindFits l (ValveKind v) = MayFit l (v .curve)
+KindFits l (kind.Pipe p) = Unit
+KindFits l (kind.Pump p) = MayFit l (p .head)
+KindFits l (kind.Valve v) = MayFit l (v .curve)
 
 -- ---- a line of PIPES or VALVES
 abbrev pub lineIn : List ℕ → LinkLine → scope.LinkFields

@@ -6,40 +6,13 @@ ghost use Rattle.scope.specs.Links.{statusIn, pipeOf};
 ghost use Rattle.linklines.specs.Lines.{NamesAs, LinkAs};
 use fields::Field;
 use fields::Span;
+use scope::LinkKind;
+use scope::Pipe;
 use scope::PipeStatus;
 use scope::Reason;
-use scope::ValveType;
 use takers::TookNumber;
 
 // ---- what the lines say
-
-pub struct Pipe {
-    pub long: f64,
-    pub diameter: f64,
-    pub roughness: f64,
-    pub minor: f64,
-    pub status: PipeStatus,
-}
-
-pub struct Pump {
-    pub speed: f64,
-    pub head: Field,
-    pub power: f64,
-}
-
-pub struct Valve {
-    pub kind: ValveType,
-    pub diameter: f64,
-    pub setting: f64,
-    pub minor: f64,
-    pub curve: Field,
-}
-
-pub enum LinkKind {
-    PipeKind(Pipe),
-    PumpKind(Pump),
-    ValveKind(Valve),
-}
 
 // The id and the two nodes, with which every link's line starts.
 pub struct LinkNames {
@@ -137,6 +110,6 @@ pub fn read_pipe(l: &[u8], at: usize) -> LinkRead
     };
     LinkRead::Line(LinkLine {
         names,
-        kind: LinkKind::PipeKind(pipe),
+        kind: LinkKind::Pipe(pipe),
     })
 }

@@ -4,6 +4,9 @@ use mathlib.Core.Path.{_≡_, refl, _∙_}
 use mathlib.Core.List.{List, _∷_}
 use lib.ListN.{length, take}
 use Rattle.fields.specs.Fields.{Name, nameIn}
+use Rattle.scope.specs.declared.Pump.{Pump}
+use Rattle.scope.specs.declared.LinkKind.{LinkKind}
+use Rattle.scope.specs.declared.LinkKind.the-variants as kind
 use Rattle.scope.specs.declared.Reason.{Reason}
 use Rattle.scope.specs.declared.Reason.the-variants.{Missing, NotFound}
 use Rattle.scope.specs.Records.{Network}
@@ -13,9 +16,6 @@ use Rattle.scope.specs.Links.{Ends, endsOf, addLink, noPump, pumpFrom, pumpStep
 use Rattle.takers.specs.Taking.{MayFit}
 use Rattle.takers.proofs.TextLaws.{name-text, opt-text}
 use Rattle.linklines.specs.Lines.{NamesFit, pumpIn, kindIn, KindFits, lineIn}
-use Rattle.linklines.specs.declared.Pump.{Pump}
-use Rattle.linklines.specs.declared.LinkKind.{LinkKind}
-use Rattle.linklines.specs.declared.LinkKind.the-variants.{PipeKind, PumpKind, ValveKind}
 use Rattle.linklines.specs.declared.LinkNames.{LinkNames}
 use Rattle.linklines.specs.declared.LinkLine.{LinkLine}
 use Rattle.linklines.proofs.NameLaws.{few}
@@ -23,9 +23,9 @@ use Rattle.linklines.proofs.NameLaws.{few}
 -- a line is the text up to its end
 module _ (text : List ℕ) (end : ℕ) where
   pub kind-text : (k : LinkKind) → KindFits (take end text) k → kindIn (take end text) k ≡ kindIn text k
-  kind-text (PipeKind p) h = refl
-  kind-text (PumpKind p) h = rw (opt-text text end (p .head) h)
-  kind-text (ValveKind v) h = rw (opt-text text end (v .curve) h)
+  kind-text (kind.Pipe p) h = refl
+  kind-text (kind.Pump p) h = rw (opt-text text end (p .head) h)
+  kind-text (kind.Valve v) h = rw (opt-text text end (v .curve) h)
 
   pub line-text : (x : LinkLine) → NamesFit (take end text) (x .names) → KindFits (take end text) (x .kind) → lineIn (take end text) x ≡ lineIn text x
   line-text x n k =

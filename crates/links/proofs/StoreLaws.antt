@@ -8,15 +8,16 @@ use mathlib.Core.Option.{Option, none, some}
 use lib.ListN.{length, getD, length-append}
 use lib.Ieee.{Float}
 use Rattle.fields.specs.Fields.{Name}
-use Rattle.scope.specs.declared.Reason.the-variants.{Used, NotFound, Full}
+use Rattle.scope.specs.declared.Reason.the-variants.{Used, NotFound, NoRoom}
 use Rattle.scope.specs.declared.Found.the-variants.{At, Nowhere}
 use Rattle.scope.specs.declared.Counts.{Counts}
+use Rattle.scope.specs.Sections.{roomLinks}
 use Rattle.scope.specs.Records.{Network, Link, LinkKind, pipe, pump, valve, lookup, nodeIds, linkIds}
 use Rattle.scope.specs.Values.{Read, good, bad}
-use Rattle.scope.specs.Links.{Ends, endsOf, addLink, LinkFields, storeLink}
+use Rattle.scope.specs.Links.{Ends, newLink, endsOf, addLink, LinkFields, storeLink}
 use Rattle.scope.specs.Tables.{idWords, nameWords, typeNo, linkKindWords, linkWords, linkNumbers}
 use Rattle.tables.specs.Table.{splice}
-use Rattle.tables.specs.Layout.{linkNumbersAt, linkNumbersSize}
+use Rattle.scope.specs.Layout.{linkNumbersAt, linkNumbersWidth}
 use Rattle.tables.specs.Adding.{linkAdded}
 use Rattle.tables.specs.Holding.{Sits, Holds, After}
 use Rattle.tables.specs.declared.Kept.the-variants.{Stored, Refused}
@@ -63,21 +64,20 @@ module _ {text : List ℕ} {m : Network} {s : Counts} {w : List ℕ} {f : List F
   link-used used = rw used (refl, refl, refl)
 
   module _ (free : lookup (linkIds m) (id .letters) ≡ Nowhere) where
-    pub links-full : 256 ≤ s .links → After text (addLink id e k m) (Refused Full) w f w f
+    pub links-full : roomLinks ≤ s .links → After text (addLink id e k m) (Refused NoRoom) w f w f
     unfolding addLink
-    links-full n = rw (free, le-ltb (length (m .links)) 256 (omega (arith, n, count-links h))) (refl, refl, refl)
+    links-full n = rw (free, le-ltb (length (m .links)) roomLinks (omega (arith, n, count-links h))) (refl, refl, refl)
 
-    pub link-stored : {w1 : List ℕ} {f1 : List Float} → Sits text id → s .links < 256
-        → w1 ≡ linkAdded w (s .links) (record { id = id; start = e .start; end = e .end; kind = k })
-        → f1 ≡ splice f (linkNumbersAt + s .links * linkNumbersSize) (linkNumbers (record { id = id; start = e .start; end = e .end; kind = k }))
+    pub link-stored : {w1 : List ℕ} {f1 : List Float} → Sits text id → s .links < roomLinks
+        → w1 ≡ linkAdded w (s .links) (newLink id e k)
+        → f1 ≡ splice f (linkNumbersAt + s .links * linkNumbersWidth) (linkNumbers (newLink id e k))
         → After text (addLink id e k m)
         (Stored (record { nodes = s .nodes; links = s .links + 1; curves = s .curves; points = s .points; patterns = s .patterns; multipliers = s .multipliers; demands = s .demands; rules = s .rules; clauses = s .clauses }))
         w f w1 f1
     unfolding addLink
     link-stored sits n ew ef =
-        let link : Link = record { id = id; start = e .start; end = e .end; kind = k } in
-        let held = add-link h link (count-links h) n sits ew ef in
-        rw (free, lt-ltb (length (m .links)) 256 (omega (arith, n, count-links h))) (rw (h .counts, length-append), held)
+        let held = add-link h (newLink id e k) (count-links h) n sits ew ef in
+        rw (free, lt-ltb (length (m .links)) roomLinks (omega (arith, n, count-links h))) (rw (h .counts, length-append), held)
 
 -- ---- a pipe or a valve
 module _ (l : LinkFields) (m : Network) where

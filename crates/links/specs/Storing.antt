@@ -3,17 +3,14 @@ use Prim.Native.Nat.{ℕ}
 use mathlib.Core.Path.{_≡_}
 use mathlib.Core.List.{List}
 use Rattle.fields.specs.Fields.{Name}
+use Rattle.scope.specs.declared.LinkKind.{LinkKind}
 use Rattle.scope.specs.declared.Reason.the-variants.{NotFound}
 use Rattle.scope.specs.Records.{Link}
 use Rattle.scope.specs.Values.{Read, good, bad}
-use Rattle.scope.specs.Links.{Ends}
+use Rattle.scope.specs.Links.{Ends, newLink}
 use Rattle.linklines.specs.Lines.{kindIn}
-use Rattle.linklines.specs.declared.LinkKind.{LinkKind}
 use Rattle.links.specs.declared.EndsFound.{EndsFound}
 use Rattle.links.specs.declared.EndsFound.the-variants.{Both, NotBoth}
-
-abbrev pub linkIn : List ℕ → Name → ℕ → ℕ → LinkKind → Link
-linkIn text id from to k = record { id = id; start = from; end = to; kind = kindIn text k }
 
 -- ---- the places of the two nodes
 abbrev pub endsAt : ℕ → ℕ → Ends
@@ -22,3 +19,7 @@ endsAt from to = record { start = from; end = to }
 abbrev pub EndsAs : Read Ends → EndsFound → Type 0
 EndsAs o (Both from to) = o ≡ good (endsAt from to)
 EndsAs o NotBoth = o ≡ bad NotFound
+
+-- ---- the link
+abbrev pub linkIn : List ℕ → Name → ℕ → ℕ → LinkKind → Link
+linkIn text id from to k = newLink id (endsAt from to) (kindIn text k)

@@ -5,16 +5,16 @@ ghost use Prim.Native.Nat.{ℕ, _+_, _*_, _≤_, _<_};
 ghost use lib.ListN.{length, take};
 ghost use Rattle.fields.specs.Fields.{Name, fieldsAt, nameIn, Fits};
 ghost use Rattle.scope.specs.Records.{Network};
+ghost use Rattle.scope.specs.Sections.{roomLinks};
 ghost use Rattle.scope.specs.Links.{endsOf, addLink, storeLink, pipeStep, pumpStep, valveStep};
-ghost use Rattle.scope.specs.Tables.{recordWords, roomNumbers, idWords, linkKindWords, linkNumbersOf, linkNumbers};
+ghost use Rattle.scope.specs.Tables.{idWords, linkKindWords, linkNumbersOf, linkNumbers};
 ghost use Rattle.tables.specs.Table.{splice};
-ghost use Rattle.tables.specs.Layout.{linkNumbersAt, linkNumbersSize};
+ghost use Rattle.scope.specs.Layout.{linkNumbersAt, linkNumbersWidth, recordWords, roomNumbers};
 ghost use Rattle.tables.specs.Adding.{linkAdded};
 ghost use Rattle.tables.specs.Holding.{Words, Holds, Sound, After};
 ghost use Rattle.linklines.specs.Lines.{kindIn, lineIn};
 ghost use Rattle.links.specs.Storing.{linkIn, endsAt, EndsAs};
 use fields::Span;
-use linklines::LinkKind;
 use linklines::LinkLine;
 use linklines::LinkNames;
 use linklines::LinkRead;
@@ -22,6 +22,8 @@ use linklines::NamesRead;
 use pumplines::PumpRead;
 use scope::Counts;
 use scope::Found;
+use scope::Kind;
+use scope::LinkKind;
 use scope::Reason;
 use tables::Kept;
 
@@ -52,20 +54,30 @@ fn kind_words(text: &[u8], kind: LinkKind) -> [u64; 4]
     ensures { λ r. ⌜ r ≡ linkKindWords (kindIn (now (text .entry)) kind) ⌝ }
 {
     match kind {
-        LinkKind::PipeKind(p) => {
+        LinkKind::Pipe(p) => {
             let status = p.status;
-            [1, numbering::pipe_status_number(status), 0, 0]
+            [codes::PIPE, codes::pipe_status_number(status), 0, 0]
         }
-        LinkKind::PumpKind(p) => {
+        LinkKind::Pump(p) => {
             let head = p.head;
             let c = tables::name_words(text, head);
-            [2, 0, c[0], c[1]]
+            [
+                codes::PUMP,
+                0,
+                c[tables::NAME_PLACE],
+                c[tables::NAME_LENGTH],
+            ]
         }
-        LinkKind::ValveKind(v) => {
-            let kind = v.kind;
+        LinkKind::Valve(v) => {
+            let kind = v.valve_type;
             let curve = v.curve;
             let c = tables::name_words(text, curve);
-            [3, numbering::valve_type_number(kind), c[0], c[1]]
+            [
+                codes::VALVE,
+                codes::valve_type_number(kind),
+                c[tables::NAME_PLACE],
+                c[tables::NAME_LENGTH],
+            ]
         }
     }
 }
@@ -74,9 +86,9 @@ fn kind_numbers(kind: LinkKind) -> [f64; 4]
     ensures { λ r. ⌜ ((text : List ℕ) → r ≡ linkNumbersOf (kindIn text kind)) ⌝ }
 {
     match kind {
-        LinkKind::PipeKind(p) => [p.long, p.diameter, p.roughness, p.minor],
-        LinkKind::PumpKind(p) => [p.speed, p.power, 0.0, 0.0],
-        LinkKind::ValveKind(v) => [v.setting, v.diameter, 0.0, v.minor],
+        LinkKind::Pipe(p) => [p.long, p.diameter, p.roughness, p.minor],
+        LinkKind::Pump(p) => [p.speed, p.power, 0.0, 0.0],
+        LinkKind::Valve(v) => [v.setting, v.diameter, 0.0, v.minor],
     }
 }
 
@@ -86,25 +98,25 @@ fn put_link(
     words: &mut [u64],
     numbers: &mut [f64],
     n: usize,
-    who: [u64; 3],
+    who: [u64; tables::ID_WIDTH],
     from: usize,
     to: usize,
     kind: LinkKind,
 )
-    requires { ⌜ (n < 256) × (length (now words) ≡ recordWords) × (length (now numbers) ≡ roomNumbers) ⌝ }
+    requires { ⌜ (n < roomLinks) × (length (now words) ≡ recordWords) × (length (now numbers) ≡ roomNumbers) ⌝ }
     ensures { λ _. ⌜ ((id : Name) → who ≡ idWords id
         → (now (words .exit) ≡ linkAdded (now (words .entry)) n (linkIn (now (text .entry)) id from to kind))
-        × (now (numbers .exit) ≡ splice (now (numbers .entry)) (linkNumbersAt + n * linkNumbersSize) (linkNumbers (linkIn (now (text .entry)) id from to kind)))) ⌝ }
+        × (now (numbers .exit) ≡ splice (now (numbers .entry)) (linkNumbersAt + n * linkNumbersWidth) (linkNumbers (linkIn (now (text .entry)) id from to kind)))) ⌝ }
 {
     let k = kind_words(text, kind);
     let x = kind_numbers(kind);
     tables::paste_words(
         words,
-        tables::LINKS + n * tables::LINK_WORDS,
+        tables::LINKS_AT + n * tables::LINKS_WIDTH,
         &[
-            who[0],
-            who[1],
-            who[2],
+            who[tables::ID_PLACE],
+            who[tables::ID_LENGTH],
+            who[tables::ID_KEY],
             from as u64,
             to as u64,
             k[0],
@@ -113,11 +125,11 @@ fn put_link(
             k[3],
         ],
     );
-    let slot = tables::slot_of(who[2]);
-    tables::mark(words, tables::LINK_SLOTS + slot, n);
+    let slot = tables::slot_of(who[tables::ID_KEY]);
+    tables::mark(words, tables::LINK_SLOTS_AT + slot, n);
     tables::paste_numbers(
         numbers,
-        tables::LINK_NUMBERS + n * tables::NUMBERS_OF_LINK,
+        tables::LINK_NUMBERS_AT + n * tables::LINK_NUMBERS_WIDTH,
         &x,
     );
 }
@@ -139,17 +151,24 @@ fn add_link(
 {
     let n = s.links;
     let who = tables::id_words(text, id);
-    let found = tables::find_link_by(text, words, n, who[2], fields::letters_of(text, id));
+    let found = tables::find(
+        text,
+        words,
+        Kind::Links,
+        n,
+        who[tables::ID_KEY],
+        fields::letters_of(text, id),
+    );
     if let Found::At(_) = found {
         return Kept::Refused(Reason::Used);
     }
-    if n < 256 {
+    if n < tables::LINKS_MOST {
         put_link(text, words, numbers, n, who, from, to, kind);
         let mut t = s;
         t.links = n + 1;
         return Kept::Stored(t);
     }
-    Kept::Refused(Reason::Full)
+    Kept::Refused(Reason::NoRoom)
 }
 
 // The nodes of a pipe or a valve are looked up after all its fields.
@@ -237,7 +256,7 @@ pub fn pump_line(
     let read = pumplines::read_pairs(&text[..end], names.end.end);
     match read {
         PumpRead::Pairs(p) => {
-            let kind = LinkKind::PumpKind(p);
+            let kind = LinkKind::Pump(p);
             add_link(text, names.id, from, to, kind, s, words, numbers)
         }
         PumpRead::NoPump(why) => Kept::Refused(why),

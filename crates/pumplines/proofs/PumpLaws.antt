@@ -21,7 +21,7 @@ use Rattle.scope.specs.Links.{oneF, noPump, withPair, pumpFrom}
 use Rattle.takers.specs.Taking.{swallowTook, MayFit}
 use Rattle.takers.specs.declared.TookNumber.the-variants.{Number, NoNumber}
 use Rattle.linklines.specs.Lines.{pumpIn}
-use Rattle.linklines.specs.declared.Pump.{Pump}
+use Rattle.scope.specs.declared.Pump.{Pump}
 use Rattle.pumplines.specs.Lines.{PumpAs}
 use Rattle.pumplines.specs.declared.PumpRead.{PumpRead}
 use Rattle.pumplines.specs.declared.PumpRead.the-variants.{Pairs}

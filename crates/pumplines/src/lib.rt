@@ -6,7 +6,7 @@ ghost use Rattle.linklines.specs.Lines.{pumpIn};
 ghost use Rattle.pumplines.specs.Lines.{PumpAs};
 use fields::Field;
 use fields::Span;
-use linklines::Pump;
+use scope::Pump;
 use scope::Reason;
 use takers::TookNumber;
 

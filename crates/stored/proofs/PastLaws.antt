@@ -13,11 +13,12 @@ use lib.Ieee.{Float}
 use borrow.Author.Tests.{le-leb, ltb-false}
 use Rattle.decimals.proofs.Whole.{le-or-lt}
 use Rattle.scope.specs.Records.{Network}
-use Rattle.scope.specs.Tables.{flat, region, blocks, recordWords, roomNumbers}
+use Rattle.scope.specs.Tables.{flat, region, blocks}
+use Rattle.scope.specs.Layout.{recordWords, roomNumbers}
 use Rattle.tables.proofs.RegionLaws.{flat-length, region-length}
 use Rattle.tables.proofs.BlockLaws.{sum, get-in, Lies, get-word}
 use Rattle.tables.proofs.EmptyLaws.{words-long, numbers-long}
-use Rattle.codes.specs.Codes.{hasRoom, haveRoom}
+use Rattle.tables.specs.Room.{hasRoom, haveRoom}
 use Rattle.stored.specs.Back.{Stands}
 
 -- ---- past the last record

@@ -9,9 +9,15 @@ use lib.Ieee.{Float, nan}
 use Rattle.fields.specs.Fields.{Name}
 use Rattle.scope.specs.Records as R
 use Rattle.scope.specs.Records.{Network, zeroF, noName, junction, reservoir, tank, pipe, pump, valve, condition, action}
-use Rattle.scope.specs.Tables.{recordWords, roomNumbers}
+use Rattle.scope.specs.Layout.{nameLength, nodeKind, nodeName, nodeDetail, linkKind, linkDetail, linkName, clauseKind, conditionOperator, conditionTarget, conditionComparison, actionElse, actionLink, clauseStatus, clauseName}
+use Rattle.scope.specs.Layout.{nodeElevation, junctionEmitter, tankInitial, tankMinimum, tankMaximum, tankDiameter, tankVolume, pipeLength, pipeDiameter, pipeRoughness, pipeMinor, pumpSpeed, pumpPower, valveSetting, valveDiameter, valveMinor, recordWords, roomNumbers}
 use Rattle.scope.specs.declared.Value.the-variants.{Number}
 use Rattle.scope.specs.declared.Tank as tankOut
+use Rattle.scope.specs.declared.Pipe as pipeOut
+use Rattle.scope.specs.declared.Pump as pumpOut
+use Rattle.scope.specs.declared.Valve as valveOut
+use Rattle.scope.specs.declared.LinkKind as linkKindOut
+use Rattle.scope.specs.declared.LinkKind.the-variants as linkIs
 use Rattle.scope.specs.declared.Condition as conditionOut
 use Rattle.scope.specs.declared.Action as actionOut
 use Rattle.tables.specs.Holding.{Words, Numbers}
@@ -21,11 +27,6 @@ use Rattle.stored.specs.declared.Reservoir as reservoirOut
 use Rattle.stored.specs.declared.NodeKind as kindOut
 use Rattle.stored.specs.declared.NodeKind.the-variants as nodeIs
 use Rattle.stored.specs.declared.Node as nodeOut
-use Rattle.stored.specs.declared.Pipe as pipeOut
-use Rattle.stored.specs.declared.Pump as pumpOut
-use Rattle.stored.specs.declared.Valve as valveOut
-use Rattle.stored.specs.declared.LinkKind as linkKindOut
-use Rattle.stored.specs.declared.LinkKind.the-variants as linkIs
 use Rattle.stored.specs.declared.Link as linkOut
 use Rattle.stored.specs.declared.Rule as ruleOut
 use Rattle.stored.specs.declared.Clause as clauseOut
@@ -37,10 +38,6 @@ pub record Stands (m : Network) (w : List ℕ) (f : List Float) : Type 0 where
   pub words : Words text m (take recordWords w)
   pub numbers : Numbers m (take roomNumbers f)
 
--- what stands past the end of a list
-abbrev pub noClause : R.Clause
-noClause = action (record { link = 0; name = noName; value = Number zeroF; otherwise = false })
-
 -- ---- a record by its words a and its numbers b, each by its place in the record
 abbrev pub wordsFrom : List ℕ → ℕ → ℕ → ℕ
 wordsFrom w at j = getD w (at + j) 0
@@ -49,37 +46,56 @@ abbrev pub numbersFrom : List Float → ℕ → ℕ → Float
 numbersFrom f at j = getD f (at + j) nan
 
 abbrev pub junctionBy : (ℕ → ℕ) → (ℕ → Float) → junctionOut.Junction
-junctionBy a b = record { elevation = b 0; emitter = b 1; disabled = eqb (a 6) 1 }
+junctionBy a b = record { elevation = b nodeElevation; emitter = b junctionEmitter; disabled = eqb (a nodeDetail) 1 }
 
 abbrev pub reservoirBy : (ℕ → ℕ) → (ℕ → Float) → reservoirOut.Reservoir
-reservoirBy a b = record { elevation = b 0; pattern = fieldFrom (a 4) (a 5); index = foundFrom (a 6) }
+reservoirBy a b = record { elevation = b nodeElevation; pattern = fieldFrom (a nodeName) (a (nodeName + nameLength)); index = foundFrom (a nodeDetail) }
 
 abbrev pub tankBy : (ℕ → ℕ) → (ℕ → Float) → tankOut.Tank
-tankBy a b = record { elevation = b 0; initial = b 1; minimum = b 2; maximum = b 3; diameter = b 4; volume = b 5; curve = fieldFrom (a 4) (a 5); overflow = eqb (a 6) 1 }
+tankBy a b =
+    record {
+      elevation = b nodeElevation;
+      initial = b tankInitial;
+      minimum = b tankMinimum;
+      maximum = b tankMaximum;
+      diameter = b tankDiameter;
+      volume = b tankVolume;
+      curve = fieldFrom (a nodeName) (a (nodeName + nameLength));
+      overflow = eqb (a nodeDetail) 1;
+    }
 
 abbrev pub kindBy : (ℕ → ℕ) → (ℕ → Float) → kindOut.NodeKind
-kindBy a b = cond (eqb (a 3) 2) (nodeIs.Reservoir (reservoirBy a b)) (cond (eqb (a 3) 3) (nodeIs.Tank (tankBy a b)) (nodeIs.Junction (junctionBy a b)))
+kindBy a b = cond (eqb (a nodeKind) 2) (nodeIs.Reservoir (reservoirBy a b)) (cond (eqb (a nodeKind) 3) (nodeIs.Tank (tankBy a b)) (nodeIs.Junction (junctionBy a b)))
 
 abbrev pub pipeBy : (ℕ → ℕ) → (ℕ → Float) → pipeOut.Pipe
-pipeBy a b = record { long = b 0; diameter = b 1; roughness = b 2; minor = b 3; status = pipeStatusFrom (a 6) }
+pipeBy a b = record { long = b pipeLength; diameter = b pipeDiameter; roughness = b pipeRoughness; minor = b pipeMinor; status = pipeStatusFrom (a linkDetail) }
 
 abbrev pub pumpBy : (ℕ → ℕ) → (ℕ → Float) → pumpOut.Pump
-pumpBy a b = record { speed = b 0; power = b 1; head = fieldFrom (a 7) (a 8) }
+pumpBy a b = record { speed = b pumpSpeed; head = fieldFrom (a linkName) (a (linkName + nameLength)); power = b pumpPower }
 
 abbrev pub valveBy : (ℕ → ℕ) → (ℕ → Float) → valveOut.Valve
-valveBy a b = record { setting = b 0; diameter = b 1; minor = b 3; sort = typeFrom (a 6); curve = fieldFrom (a 7) (a 8) }
+valveBy a b =
+    record { «valve_type» = typeFrom (a linkDetail); diameter = b valveDiameter; setting = b valveSetting; minor = b valveMinor; curve = fieldFrom (a linkName) (a (linkName + nameLength)) }
 
 abbrev pub linkKindBy : (ℕ → ℕ) → (ℕ → Float) → linkKindOut.LinkKind
-linkKindBy a b = cond (eqb (a 5) 2) (linkIs.Pump (pumpBy a b)) (cond (eqb (a 5) 3) (linkIs.Valve (valveBy a b)) (linkIs.Pipe (pipeBy a b)))
+linkKindBy a b = cond (eqb (a linkKind) 2) (linkIs.Pump (pumpBy a b)) (cond (eqb (a linkKind) 3) (linkIs.Valve (valveBy a b)) (linkIs.Pipe (pipeBy a b)))
 
 abbrev pub conditionBy : (ℕ → ℕ) → Float → conditionOut.Condition
-conditionBy a x = record { operator = operatorFrom (a 1); target = targetFrom (a 2); name = fieldFrom (a 5) (a 6); comparison = comparisonFrom (a 3); value = valueFrom (a 4) x }
+conditionBy a x =
+    record {
+      operator = operatorFrom (a conditionOperator);
+      target = targetFrom (a conditionTarget);
+      name = fieldFrom (a clauseName) (a (clauseName + nameLength));
+      comparison = comparisonFrom (a conditionComparison);
+      value = valueFrom (a clauseStatus) x;
+    }
 
 abbrev pub actionBy : (ℕ → ℕ) → Float → actionOut.Action
-actionBy a x = record { link = a 2; name = spanFrom (a 5) (a 6); value = valueFrom (a 4) x; otherwise = eqb (a 1) 1 }
+actionBy a x =
+    record { link = a actionLink; name = spanFrom (a clauseName) (a (clauseName + nameLength)); value = valueFrom (a clauseStatus) x; otherwise = eqb (a actionElse) 1 }
 
 abbrev pub clauseBy : (ℕ → ℕ) → Float → clauseOut.Clause
-clauseBy a x = cond (eqb (a 0) 1) (clauseIs.Condition (conditionBy a x)) (clauseIs.Action (actionBy a x))
+clauseBy a x = cond (eqb (a clauseKind) 1) (clauseIs.Condition (conditionBy a x)) (clauseIs.Action (actionBy a x))
 
 -- ---- a record of the network, as the code has it
 abbrev pub kindBack : R.NodeKind → kindOut.NodeKind
@@ -97,8 +113,8 @@ nodeBack n = nodeAt (n .id) (kindBack (n .kind)) (n .place)
 
 abbrev pub linkKindBack : R.LinkKind → linkKindOut.LinkKind
 linkKindBack (pipe p) = linkIs.Pipe (record { long = p .long; diameter = p .diameter; roughness = p .roughness; minor = p .minor; status = p .status })
-linkKindBack (pump p) = linkIs.Pump (record { speed = p .speed; power = p .power; head = nameField (p .head) })
-linkKindBack (valve v) = linkIs.Valve (record { setting = v .setting; diameter = v .diameter; minor = v .minor; sort = v .type; curve = nameField (v .curve) })
+linkKindBack (pump p) = linkIs.Pump (record { speed = p .speed; head = nameField (p .head); power = p .power })
+linkKindBack (valve v) = linkIs.Valve (record { «valve_type» = v .type; diameter = v .diameter; setting = v .setting; minor = v .minor; curve = nameField (v .curve) })
 
 abbrev pub linkBack : R.Link → linkOut.Link
 linkBack l = record { id = nameSpan (l .id); start = l .start; end = l .end; kind = linkKindBack (l .kind) }

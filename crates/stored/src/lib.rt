@@ -4,21 +4,24 @@ ghost use mathlib.Core.List.{List};
 ghost use Prim.Native.Nat.{_+_, _≤_, _<_};
 ghost use lib.Ieee.{Float};
 ghost use lib.ListN.{length, getD};
-ghost use Rattle.scope.specs.Records.{Network, noNode};
-ghost use Rattle.scope.specs.Rules.{noLink};
-ghost use Rattle.tables.specs.Holding.{noRule};
+ghost use Rattle.scope.specs.Records.{Network, noNode, noLink, noRule, noClause};
+ghost use Rattle.scope.specs.Sections.{roomNodes, roomLinks, roomRules, roomClauses};
 ghost use Rattle.codes.specs.Codes.{spanFrom, fieldFrom};
-ghost use Rattle.stored.specs.Back.{Stands, wordsFrom, numbersFrom, noClause, junctionBy, reservoirBy, tankBy, kindBy, pipeBy, pumpBy, valveBy, linkKindBy, conditionBy, actionBy, clauseBy, nodeBack, linkBack, ruleBack, clauseBack};
+ghost use Rattle.stored.specs.Back.{Stands, wordsFrom, numbersFrom, junctionBy, reservoirBy, tankBy, kindBy, pipeBy, pumpBy, valveBy, linkKindBy, conditionBy, actionBy, clauseBy, nodeBack, linkBack, ruleBack, clauseBack};
+ghost use Rattle.scope.specs.Layout.{nameLength, nodesWidth, linksWidth, clausesWidth, nodeNumbersWidth, linkNumbersWidth, recordWords, roomNumbers};
 use codes::Amount;
 use fields::Field;
 use fields::Span;
 use scope::Action;
 use scope::Condition;
 use scope::Found;
+use scope::LinkKind;
+use scope::Pipe;
 use scope::PipeStatus;
+use scope::Pump;
 use scope::Tank;
 use scope::Value;
-use scope::ValveType;
+use scope::Valve;
 
 // ---- what the records are
 
@@ -50,34 +53,6 @@ pub struct Node {
     pub y: f64,
 }
 
-pub struct Pipe {
-    pub long: f64,
-    pub diameter: f64,
-    pub roughness: f64,
-    pub minor: f64,
-    pub status: PipeStatus,
-}
-
-pub struct Pump {
-    pub speed: f64,
-    pub power: f64,
-    pub head: Field,
-}
-
-pub struct Valve {
-    pub setting: f64,
-    pub diameter: f64,
-    pub minor: f64,
-    pub sort: ValveType,
-    pub curve: Field,
-}
-
-pub enum LinkKind {
-    Pipe(Pipe),
-    Pump(Pump),
-    Valve(Valve),
-}
-
 // The ends are places of nodes.
 pub struct Link {
     pub id: Span,
@@ -102,89 +77,89 @@ pub enum Clause {
 // ---- names by their words, for every record
 
 pub fn span_at(words: &[u64], at: usize) -> Span
-    requires { ⌜ at + 1 < length (now words) ⌝ }
-    ensures { λ r. ⌜ r ≡ spanFrom (getD (now (words .entry)) at 0) (getD (now (words .entry)) (at + 1) 0) ⌝ }
+    requires { ⌜ at + nameLength < length (now words) ⌝ }
+    ensures { λ r. ⌜ r ≡ spanFrom (getD (now (words .entry)) at 0) (getD (now (words .entry)) (at + nameLength) 0) ⌝ }
 {
-    codes::span_from(words[at] as usize, words[at + 1] as usize)
+    codes::span_from(words[at] as usize, words[at + tables::NAME_LENGTH] as usize)
 }
 
 pub fn field_at(words: &[u64], at: usize) -> Field
-    requires { ⌜ at + 1 < length (now words) ⌝ }
-    ensures { λ r. ⌜ r ≡ fieldFrom (getD (now (words .entry)) at 0) (getD (now (words .entry)) (at + 1) 0) ⌝ }
+    requires { ⌜ at + nameLength < length (now words) ⌝ }
+    ensures { λ r. ⌜ r ≡ fieldFrom (getD (now (words .entry)) at 0) (getD (now (words .entry)) (at + nameLength) 0) ⌝ }
 {
-    codes::field_from(words[at] as usize, words[at + 1] as usize)
+    codes::field_from(words[at] as usize, words[at + tables::NAME_LENGTH] as usize)
 }
 
 // ---- nodes
 
 fn junction_at(words: &[u64], numbers: &[f64], a: usize, b: usize) -> Junction
-    requires { ⌜ (a + 8 ≤ length (now words)) × (b + 8 ≤ length (now numbers)) ⌝ }
+    requires { ⌜ (a + nodesWidth ≤ length (now words)) × (b + nodeNumbersWidth ≤ length (now numbers)) ⌝ }
     ensures { λ r. ⌜ r ≡ junctionBy (wordsFrom (now (words .entry)) a) (numbersFrom (now (numbers .entry)) b) ⌝ }
 {
     Junction {
-        elevation: numbers[b + 0],
-        emitter: numbers[b + 1],
-        disabled: words[a + 6] == 1,
+        elevation: numbers[b + tables::NODE_ELEVATION],
+        emitter: numbers[b + tables::JUNCTION_EMITTER],
+        disabled: words[a + tables::NODE_DETAIL] == 1,
     }
 }
 
 fn reservoir_at(words: &[u64], numbers: &[f64], a: usize, b: usize) -> Reservoir
-    requires { ⌜ (a + 8 ≤ length (now words)) × (b + 8 ≤ length (now numbers)) ⌝ }
+    requires { ⌜ (a + nodesWidth ≤ length (now words)) × (b + nodeNumbersWidth ≤ length (now numbers)) ⌝ }
     ensures { λ r. ⌜ r ≡ reservoirBy (wordsFrom (now (words .entry)) a) (numbersFrom (now (numbers .entry)) b) ⌝ }
 {
-    let pattern = field_at(words, a + 4);
-    let index = codes::found_from(words[a + 6]);
+    let pattern = field_at(words, a + tables::NODE_NAME);
+    let index = codes::found_from(words[a + tables::NODE_DETAIL]);
     Reservoir {
-        elevation: numbers[b + 0],
+        elevation: numbers[b + tables::NODE_ELEVATION],
         pattern,
         index,
     }
 }
 
 fn tank_at(words: &[u64], numbers: &[f64], a: usize, b: usize) -> Tank
-    requires { ⌜ (a + 8 ≤ length (now words)) × (b + 8 ≤ length (now numbers)) ⌝ }
+    requires { ⌜ (a + nodesWidth ≤ length (now words)) × (b + nodeNumbersWidth ≤ length (now numbers)) ⌝ }
     ensures { λ r. ⌜ r ≡ tankBy (wordsFrom (now (words .entry)) a) (numbersFrom (now (numbers .entry)) b) ⌝ }
 {
-    let curve = field_at(words, a + 4);
+    let curve = field_at(words, a + tables::NODE_NAME);
     Tank {
-        elevation: numbers[b + 0],
-        initial: numbers[b + 1],
-        minimum: numbers[b + 2],
-        maximum: numbers[b + 3],
-        diameter: numbers[b + 4],
-        volume: numbers[b + 5],
+        elevation: numbers[b + tables::NODE_ELEVATION],
+        initial: numbers[b + tables::TANK_INITIAL_LEVEL],
+        minimum: numbers[b + tables::TANK_MINIMUM_LEVEL],
+        maximum: numbers[b + tables::TANK_MAXIMUM_LEVEL],
+        diameter: numbers[b + tables::TANK_DIAMETER],
+        volume: numbers[b + tables::TANK_MINIMUM_VOLUME],
         curve,
-        overflow: words[a + 6] == 1,
+        overflow: words[a + tables::NODE_DETAIL] == 1,
     }
 }
 
 fn kind_at(words: &[u64], numbers: &[f64], a: usize, b: usize) -> NodeKind
-    requires { ⌜ (a + 8 ≤ length (now words)) × (b + 8 ≤ length (now numbers)) ⌝ }
+    requires { ⌜ (a + nodesWidth ≤ length (now words)) × (b + nodeNumbersWidth ≤ length (now numbers)) ⌝ }
     ensures { λ r. ⌜ r ≡ kindBy (wordsFrom (now (words .entry)) a) (numbersFrom (now (numbers .entry)) b) ⌝ }
 {
-    if words[a + 3] == 2 {
+    if words[a + tables::NODE_KIND] == codes::RESERVOIR {
         return NodeKind::Reservoir(reservoir_at(words, numbers, a, b));
     }
-    if words[a + 3] == 3 {
+    if words[a + tables::NODE_KIND] == codes::TANK {
         return NodeKind::Tank(tank_at(words, numbers, a, b));
     }
     NodeKind::Junction(junction_at(words, numbers, a, b))
 }
 
 fn node_row(words: &[u64], numbers: &[f64], i: usize) -> Node
-    requires { ⌜ (i < 256) × (17128 ≤ length (now words)) × (8192 ≤ length (now numbers)) ⌝ }
+    requires { ⌜ (i < roomNodes) × (recordWords ≤ length (now words)) × (roomNumbers ≤ length (now numbers)) ⌝ }
     ensures { λ r. ⌜ ((m : Network) → Stands m (now (words .entry)) (now (numbers .entry)) → r ≡ nodeBack (getD (m .nodes) i noNode)) ⌝ }
 {
-    let a = tables::NODES + i * tables::NODE_WORDS;
-    let b = tables::NODE_NUMBERS + i * tables::NUMBERS_OF_NODE;
+    let a = tables::NODES_AT + i * tables::NODES_WIDTH;
+    let b = tables::NODE_NUMBERS_AT + i * tables::NODE_NUMBERS_WIDTH;
     let id = span_at(words, a);
     let kind = kind_at(words, numbers, a, b);
     Node {
         id,
         kind,
-        placed: words[a + 7] == 1,
-        x: numbers[b + 6],
-        y: numbers[b + 7],
+        placed: words[a + tables::NODE_PLACED] == 1,
+        x: numbers[b + tables::NODE_X],
+        y: numbers[b + tables::NODE_Y],
     }
 }
 
@@ -192,7 +167,7 @@ fn node_row(words: &[u64], numbers: &[f64], i: usize) -> Node
 pub fn node_at(words: &[u64], numbers: &[f64], i: usize) -> Node
     ensures { λ r. ⌜ ((m : Network) → Stands m (now (words .entry)) (now (numbers .entry)) → r ≡ nodeBack (getD (m .nodes) i noNode)) ⌝ }
 {
-    if codes::have_room(words, numbers, 256, i) {
+    if tables::have_room(words, numbers, tables::NODES_MOST, i) {
         return node_row(words, numbers, i);
     }
     Node {
@@ -211,71 +186,71 @@ pub fn node_at(words: &[u64], numbers: &[f64], i: usize) -> Node
 // ---- links
 
 fn pipe_at(words: &[u64], numbers: &[f64], a: usize, b: usize) -> Pipe
-    requires { ⌜ (a + 9 ≤ length (now words)) × (b + 4 ≤ length (now numbers)) ⌝ }
+    requires { ⌜ (a + linksWidth ≤ length (now words)) × (b + linkNumbersWidth ≤ length (now numbers)) ⌝ }
     ensures { λ r. ⌜ r ≡ pipeBy (wordsFrom (now (words .entry)) a) (numbersFrom (now (numbers .entry)) b) ⌝ }
 {
-    let status = codes::pipe_status_from(words[a + 6]);
+    let status = codes::pipe_status_from(words[a + tables::LINK_DETAIL]);
     Pipe {
-        long: numbers[b + 0],
-        diameter: numbers[b + 1],
-        roughness: numbers[b + 2],
-        minor: numbers[b + 3],
+        long: numbers[b + tables::PIPE_LENGTH],
+        diameter: numbers[b + tables::PIPE_DIAMETER],
+        roughness: numbers[b + tables::PIPE_ROUGHNESS],
+        minor: numbers[b + tables::PIPE_MINOR_LOSS],
         status,
     }
 }
 
 fn pump_at(words: &[u64], numbers: &[f64], a: usize, b: usize) -> Pump
-    requires { ⌜ (a + 9 ≤ length (now words)) × (b + 4 ≤ length (now numbers)) ⌝ }
+    requires { ⌜ (a + linksWidth ≤ length (now words)) × (b + linkNumbersWidth ≤ length (now numbers)) ⌝ }
     ensures { λ r. ⌜ r ≡ pumpBy (wordsFrom (now (words .entry)) a) (numbersFrom (now (numbers .entry)) b) ⌝ }
 {
-    let head = field_at(words, a + 7);
+    let head = field_at(words, a + tables::LINK_NAME);
     Pump {
-        speed: numbers[b + 0],
-        power: numbers[b + 1],
+        speed: numbers[b + tables::PUMP_SPEED],
         head,
+        power: numbers[b + tables::PUMP_POWER],
     }
 }
 
 fn valve_at(words: &[u64], numbers: &[f64], a: usize, b: usize) -> Valve
-    requires { ⌜ (a + 9 ≤ length (now words)) × (b + 4 ≤ length (now numbers)) ⌝ }
+    requires { ⌜ (a + linksWidth ≤ length (now words)) × (b + linkNumbersWidth ≤ length (now numbers)) ⌝ }
     ensures { λ r. ⌜ r ≡ valveBy (wordsFrom (now (words .entry)) a) (numbersFrom (now (numbers .entry)) b) ⌝ }
 {
-    let sort = codes::valve_type_from(words[a + 6]);
-    let curve = field_at(words, a + 7);
+    let kind = codes::valve_type_from(words[a + tables::LINK_DETAIL]);
+    let curve = field_at(words, a + tables::LINK_NAME);
     Valve {
-        setting: numbers[b + 0],
-        diameter: numbers[b + 1],
-        minor: numbers[b + 3],
-        sort,
+        valve_type: kind,
+        diameter: numbers[b + tables::VALVE_DIAMETER],
+        setting: numbers[b + tables::VALVE_SETTING],
+        minor: numbers[b + tables::VALVE_MINOR_LOSS],
         curve,
     }
 }
 
 fn link_kind_at(words: &[u64], numbers: &[f64], a: usize, b: usize) -> LinkKind
-    requires { ⌜ (a + 9 ≤ length (now words)) × (b + 4 ≤ length (now numbers)) ⌝ }
+    requires { ⌜ (a + linksWidth ≤ length (now words)) × (b + linkNumbersWidth ≤ length (now numbers)) ⌝ }
     ensures { λ r. ⌜ r ≡ linkKindBy (wordsFrom (now (words .entry)) a) (numbersFrom (now (numbers .entry)) b) ⌝ }
 {
-    if words[a + 5] == 2 {
+    if words[a + tables::LINK_KIND] == codes::PUMP {
         return LinkKind::Pump(pump_at(words, numbers, a, b));
     }
-    if words[a + 5] == 3 {
+    if words[a + tables::LINK_KIND] == codes::VALVE {
         return LinkKind::Valve(valve_at(words, numbers, a, b));
     }
     LinkKind::Pipe(pipe_at(words, numbers, a, b))
 }
 
 fn link_row(words: &[u64], numbers: &[f64], i: usize) -> Link
-    requires { ⌜ (i < 256) × (17128 ≤ length (now words)) × (8192 ≤ length (now numbers)) ⌝ }
+    requires { ⌜ (i < roomLinks) × (recordWords ≤ length (now words)) × (roomNumbers ≤ length (now numbers)) ⌝ }
     ensures { λ r. ⌜ ((m : Network) → Stands m (now (words .entry)) (now (numbers .entry)) → r ≡ linkBack (getD (m .links) i noLink)) ⌝ }
 {
-    let a = tables::LINKS + i * tables::LINK_WORDS;
-    let b = tables::LINK_NUMBERS + i * tables::NUMBERS_OF_LINK;
+    let a = tables::LINKS_AT + i * tables::LINKS_WIDTH;
+    let b = tables::LINK_NUMBERS_AT + i * tables::LINK_NUMBERS_WIDTH;
     let id = span_at(words, a);
     let kind = link_kind_at(words, numbers, a, b);
     Link {
         id,
-        start: words[a + 3] as usize,
-        end: words[a + 4] as usize,
+        start: words[a + tables::LINK_START] as usize,
+        end: words[a + tables::LINK_END] as usize,
         kind,
     }
 }
@@ -284,7 +259,7 @@ fn link_row(words: &[u64], numbers: &[f64], i: usize) -> Link
 pub fn link_at(words: &[u64], numbers: &[f64], i: usize) -> Link
     ensures { λ r. ⌜ ((m : Network) → Stands m (now (words .entry)) (now (numbers .entry)) → r ≡ linkBack (getD (m .links) i noLink)) ⌝ }
 {
-    if codes::have_room(words, numbers, 256, i) {
+    if tables::have_room(words, numbers, tables::LINKS_MOST, i) {
         return link_row(words, numbers, i);
     }
     Link {
@@ -304,16 +279,19 @@ pub fn link_at(words: &[u64], numbers: &[f64], i: usize) -> Link
 // ---- rules
 
 fn rule_row(words: &[u64], i: usize) -> Rule
-    requires { ⌜ (i < 64) × (17128 ≤ length (now words)) ⌝ }
+    requires { ⌜ (i < roomRules) × (recordWords ≤ length (now words)) ⌝ }
     ensures { λ r. ⌜ ((m : Network) (f : List Float) → Stands m (now (words .entry)) f → r ≡ ruleBack (getD (m .rules) i noRule)) ⌝ }
 {
-    let a = tables::RULES + i * tables::RULE_WORDS;
+    let a = tables::RULES_AT + i * tables::RULES_WIDTH;
     let id = span_at(words, a);
-    let priority = codes::amount_from(words[a + 5], words[a + 6]);
+    let priority = codes::amount_from(
+        words[a + tables::RULE_PRIORITY_SET],
+        words[a + tables::RULE_PRIORITY],
+    );
     Rule {
         id,
-        first: words[a + 3] as usize,
-        count: words[a + 4] as usize,
+        first: words[a + tables::RULE_FIRST] as usize,
+        count: words[a + tables::RULE_COUNT] as usize,
         priority,
     }
 }
@@ -322,7 +300,7 @@ fn rule_row(words: &[u64], i: usize) -> Rule
 pub fn rule_at(words: &[u64], i: usize) -> Rule
     ensures { λ r. ⌜ ((m : Network) (f : List Float) → Stands m (now (words .entry)) f → r ≡ ruleBack (getD (m .rules) i noRule)) ⌝ }
 {
-    if codes::has_room(words, 64, i) {
+    if tables::has_room(words, tables::RULES_MOST, i) {
         return rule_row(words, i);
     }
     Rule {
@@ -334,14 +312,14 @@ pub fn rule_at(words: &[u64], i: usize) -> Rule
 }
 
 fn condition_at(words: &[u64], a: usize, x: f64) -> Condition
-    requires { ⌜ a + 7 ≤ length (now words) ⌝ }
+    requires { ⌜ a + clausesWidth ≤ length (now words) ⌝ }
     ensures { λ r. ⌜ r ≡ conditionBy (wordsFrom (now (words .entry)) a) x ⌝ }
 {
-    let operator = codes::operator_from(words[a + 1]);
-    let target = codes::target_from(words[a + 2]);
-    let comparison = codes::comparison_from(words[a + 3]);
-    let value = codes::value_from(words[a + 4], x);
-    let name = field_at(words, a + 5);
+    let operator = codes::operator_from(words[a + tables::CONDITION_OPERATOR]);
+    let target = codes::target_from(words[a + tables::CONDITION_TARGET]);
+    let comparison = codes::comparison_from(words[a + tables::CONDITION_COMPARISON]);
+    let value = codes::value_from(words[a + tables::CLAUSE_STATUS], x);
+    let name = field_at(words, a + tables::CLAUSE_NAME);
     Condition {
         operator,
         target,
@@ -352,37 +330,37 @@ fn condition_at(words: &[u64], a: usize, x: f64) -> Condition
 }
 
 fn action_at(words: &[u64], a: usize, x: f64) -> Action
-    requires { ⌜ a + 7 ≤ length (now words) ⌝ }
+    requires { ⌜ a + clausesWidth ≤ length (now words) ⌝ }
     ensures { λ r. ⌜ r ≡ actionBy (wordsFrom (now (words .entry)) a) x ⌝ }
 {
-    let value = codes::value_from(words[a + 4], x);
-    let name = span_at(words, a + 5);
+    let value = codes::value_from(words[a + tables::CLAUSE_STATUS], x);
+    let name = span_at(words, a + tables::CLAUSE_NAME);
     Action {
-        link: words[a + 2] as usize,
+        link: words[a + tables::ACTION_LINK] as usize,
         name,
         value,
-        otherwise: words[a + 1] == 1,
+        otherwise: words[a + tables::ACTION_ELSE] == 1,
     }
 }
 
 fn clause_by(words: &[u64], a: usize, x: f64) -> Clause
-    requires { ⌜ a + 7 ≤ length (now words) ⌝ }
+    requires { ⌜ a + clausesWidth ≤ length (now words) ⌝ }
     ensures { λ r. ⌜ r ≡ clauseBy (wordsFrom (now (words .entry)) a) x ⌝ }
 {
-    if words[a + 0] == 1 {
+    if words[a + tables::CLAUSE_KIND] == codes::CONDITION {
         return Clause::Condition(condition_at(words, a, x));
     }
     Clause::Action(action_at(words, a, x))
 }
 
 fn clause_row(words: &[u64], numbers: &[f64], i: usize) -> Clause
-    requires { ⌜ (i < 512) × (17128 ≤ length (now words)) × (8192 ≤ length (now numbers)) ⌝ }
+    requires { ⌜ (i < roomClauses) × (recordWords ≤ length (now words)) × (roomNumbers ≤ length (now numbers)) ⌝ }
     ensures { λ r. ⌜ ((m : Network) → Stands m (now (words .entry)) (now (numbers .entry)) → r ≡ clauseBack (getD (m .clauses) i noClause)) ⌝ }
 {
     clause_by(
         words,
-        tables::CLAUSES + i * tables::CLAUSE_WORDS,
-        numbers[tables::CLAUSE_NUMBERS + i],
+        tables::CLAUSES_AT + i * tables::CLAUSES_WIDTH,
+        numbers[tables::CLAUSE_NUMBERS_AT + i],
     )
 }
 
@@ -390,7 +368,7 @@ fn clause_row(words: &[u64], numbers: &[f64], i: usize) -> Clause
 pub fn clause_at(words: &[u64], numbers: &[f64], i: usize) -> Clause
     ensures { λ r. ⌜ ((m : Network) → Stands m (now (words .entry)) (now (numbers .entry)) → r ≡ clauseBack (getD (m .clauses) i noClause)) ⌝ }
 {
-    if codes::have_room(words, numbers, 512, i) {
+    if tables::have_room(words, numbers, tables::CLAUSES_MOST, i) {
         return clause_row(words, numbers, i);
     }
     Clause::Action(Action {

@@ -4,16 +4,15 @@ ghost use mathlib.Core.List.{List, _++_};
 ghost use Prim.Native.Nat.{ℕ};
 ghost use lib.ListN.{drop};
 ghost use Rattle.scope.specs.Records.{Network, countsOf};
-ghost use Rattle.scope.specs.Tables.{recordWords, tallyWords};
+ghost use Rattle.scope.specs.Tables.{tallyWords};
+ghost use Rattle.scope.specs.Layout.{recordWords};
 use scope::Counts;
-
-const ROOM_WORDS: usize = 17137;
 
 // How many records of each kind there are, from the end of the words that a reading was lent.
 pub fn counts_at(words: &[u64]) -> Counts
     ensures { λ r. ⌜ ((m : Network) (rest : List ℕ) → drop recordWords (now (words .entry)) ≡ tallyWords (countsOf m) ++ rest → r ≡ countsOf m) ⌝ }
 {
-    if words.len() < ROOM_WORDS {
+    if words.len() < tables::WORDS_ROOM {
         return Counts {
             nodes: 0,
             links: 0,
@@ -27,14 +26,14 @@ pub fn counts_at(words: &[u64]) -> Counts
         };
     }
     Counts {
-        nodes: words[tables::RECORD_WORDS + 0] as usize,
-        links: words[tables::RECORD_WORDS + 1] as usize,
-        curves: words[tables::RECORD_WORDS + 2] as usize,
-        points: words[tables::RECORD_WORDS + 3] as usize,
-        patterns: words[tables::RECORD_WORDS + 4] as usize,
-        multipliers: words[tables::RECORD_WORDS + 5] as usize,
-        demands: words[tables::RECORD_WORDS + 6] as usize,
-        rules: words[tables::RECORD_WORDS + 7] as usize,
-        clauses: words[tables::RECORD_WORDS + 8] as usize,
+        nodes: words[tables::COUNTS_AT + tables::COUNT_NODES] as usize,
+        links: words[tables::COUNTS_AT + tables::COUNT_LINKS] as usize,
+        curves: words[tables::COUNTS_AT + tables::COUNT_CURVES] as usize,
+        points: words[tables::COUNTS_AT + tables::COUNT_POINTS] as usize,
+        patterns: words[tables::COUNTS_AT + tables::COUNT_PATTERNS] as usize,
+        multipliers: words[tables::COUNTS_AT + tables::COUNT_MULTIPLIERS] as usize,
+        demands: words[tables::COUNTS_AT + tables::COUNT_DEMANDS] as usize,
+        rules: words[tables::COUNTS_AT + tables::COUNT_RULES] as usize,
+        clauses: words[tables::COUNTS_AT + tables::COUNT_CLAUSES] as usize,
     }
 }

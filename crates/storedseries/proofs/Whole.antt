@@ -1,7 +1,8 @@
 -- A whole record by its words a and its numbers b, as the code reads it: only laws speak of it. Assumes nothing.
-use Prim.Native.Nat.{ℕ}
+use Prim.Native.Nat.{ℕ, _+_}
 use lib.Dec.{eqb}
 use lib.Ieee.{Float}
+use Rattle.scope.specs.Layout.{idPlace, idLength, nameLength, demandNode, demandOwn, demandName, demandIndex, pointX, pointY}
 use Rattle.codes.specs.Codes.{spanFrom, fieldFrom, foundFrom}
 use Rattle.storedseries.specs.declared.Curve as curveOut
 use Rattle.storedseries.specs.declared.Pattern as patternOut
@@ -10,16 +11,16 @@ use Rattle.storedseries.specs.declared.Multiplier as multiplierOut
 use Rattle.storedseries.specs.declared.Demand as demandOut
 
 abbrev pub curveBy : (ℕ → ℕ) → curveOut.Curve
-curveBy a = record { id = spanFrom (a 0) (a 1) }
+curveBy a = record { id = spanFrom (a idPlace) (a idLength) }
 
 abbrev pub patternBy : (ℕ → ℕ) → patternOut.Pattern
-patternBy a = record { id = spanFrom (a 0) (a 1) }
+patternBy a = record { id = spanFrom (a idPlace) (a idLength) }
 
 abbrev pub pointBy : ℕ → (ℕ → Float) → pointOut.Point
-pointBy curve b = record { curve = curve; x = b 0; y = b 1 }
+pointBy curve b = record { curve = curve; x = b pointX; y = b pointY }
 
 abbrev pub multiplierBy : ℕ → Float → multiplierOut.Multiplier
 multiplierBy pattern x = record { pattern = pattern; value = x }
 
 abbrev pub demandBy : (ℕ → ℕ) → Float → demandOut.Demand
-demandBy a x = record { node = a 0; own = eqb (a 1) 1; base = x; pattern = fieldFrom (a 2) (a 3); index = foundFrom (a 4) }
+demandBy a x = record { node = a demandNode; own = eqb (a demandOwn) 1; base = x; pattern = fieldFrom (a demandName) (a (demandName + nameLength)); index = foundFrom (a demandIndex) }

@@ -9,13 +9,6 @@ use Rattle.storedseries.specs.declared.Point as pointOut
 use Rattle.storedseries.specs.declared.Multiplier as multiplierOut
 use Rattle.storedseries.specs.declared.Demand as demandOut
 
--- what stands past the end of a list
-abbrev pub noPoint : R.Point
-noPoint = record { curve = 0; x = zeroF; y = zeroF }
-
-abbrev pub noMultiplier : R.Multiplier
-noMultiplier = record { pattern = 0; value = zeroF }
-
 -- ---- a record of the network, as the code has it
 abbrev pub curveBack : Name → curveOut.Curve
 curveBack n = record { id = nameSpan n }

@@ -5,11 +5,12 @@ ghost use mathlib.Core.Option.{none};
 ghost use Prim.Native.Nat.{_≤_, _<_};
 ghost use lib.Ieee.{Float};
 ghost use lib.ListN.{length, getD};
-ghost use Rattle.scope.specs.Records.{Network, noName};
-ghost use Rattle.tables.specs.Holding.{noDemand};
+ghost use Rattle.scope.specs.Records.{Network, noName, noDemand, noPoint, noMultiplier};
+ghost use Rattle.scope.specs.Sections.{roomCurves, roomPoints, roomPatterns, roomMultipliers, roomDemands};
 ghost use Rattle.codes.specs.Codes.{amountOf};
 ghost use Rattle.stored.specs.Back.{Stands};
-ghost use Rattle.storedseries.specs.Back.{noPoint, noMultiplier, curveBack, patternBack, pointBack, multiplierBack, demandBack};
+ghost use Rattle.storedseries.specs.Back.{curveBack, patternBack, pointBack, multiplierBack, demandBack};
+ghost use Rattle.scope.specs.Layout.{recordWords, roomNumbers, roomTimes};
 use codes::Amount;
 use fields::Field;
 use fields::Span;
@@ -50,10 +51,10 @@ pub struct Demand {
 // ---- curves and patterns
 
 fn curve_row(words: &[u64], i: usize) -> Curve
-    requires { ⌜ (i < 64) × (17128 ≤ length (now words)) ⌝ }
+    requires { ⌜ (i < roomCurves) × (recordWords ≤ length (now words)) ⌝ }
     ensures { λ r. ⌜ ((m : Network) (f : List Float) → Stands m (now (words .entry)) f → r ≡ curveBack (getD (m .curves) i noName)) ⌝ }
 {
-    let id = stored::span_at(words, tables::CURVES + i * tables::ID_WORDS);
+    let id = stored::span_at(words, tables::CURVES_AT + i * tables::CURVES_WIDTH);
     Curve { id }
 }
 
@@ -61,7 +62,7 @@ fn curve_row(words: &[u64], i: usize) -> Curve
 pub fn curve_at(words: &[u64], i: usize) -> Curve
     ensures { λ r. ⌜ ((m : Network) (f : List Float) → Stands m (now (words .entry)) f → r ≡ curveBack (getD (m .curves) i noName)) ⌝ }
 {
-    if codes::has_room(words, 64, i) {
+    if tables::has_room(words, tables::CURVES_MOST, i) {
         return curve_row(words, i);
     }
     Curve {
@@ -70,10 +71,10 @@ pub fn curve_at(words: &[u64], i: usize) -> Curve
 }
 
 fn pattern_row(words: &[u64], i: usize) -> Pattern
-    requires { ⌜ (i < 64) × (17128 ≤ length (now words)) ⌝ }
+    requires { ⌜ (i < roomPatterns) × (recordWords ≤ length (now words)) ⌝ }
     ensures { λ r. ⌜ ((m : Network) (f : List Float) → Stands m (now (words .entry)) f → r ≡ patternBack (getD (m .patterns) i noName)) ⌝ }
 {
-    let id = stored::span_at(words, tables::PATTERNS + i * tables::ID_WORDS);
+    let id = stored::span_at(words, tables::PATTERNS_AT + i * tables::PATTERNS_WIDTH);
     Pattern { id }
 }
 
@@ -81,7 +82,7 @@ fn pattern_row(words: &[u64], i: usize) -> Pattern
 pub fn pattern_at(words: &[u64], i: usize) -> Pattern
     ensures { λ r. ⌜ ((m : Network) (f : List Float) → Stands m (now (words .entry)) f → r ≡ patternBack (getD (m .patterns) i noName)) ⌝ }
 {
-    if codes::has_room(words, 64, i) {
+    if tables::has_room(words, tables::PATTERNS_MOST, i) {
         return pattern_row(words, i);
     }
     Pattern {
@@ -90,14 +91,14 @@ pub fn pattern_at(words: &[u64], i: usize) -> Pattern
 }
 
 fn point_row(words: &[u64], numbers: &[f64], i: usize) -> Point
-    requires { ⌜ (i < 1024) × (17128 ≤ length (now words)) × (8192 ≤ length (now numbers)) ⌝ }
+    requires { ⌜ (i < roomPoints) × (recordWords ≤ length (now words)) × (roomNumbers ≤ length (now numbers)) ⌝ }
     ensures { λ r. ⌜ ((m : Network) → Stands m (now (words .entry)) (now (numbers .entry)) → r ≡ pointBack (getD (m .points) i noPoint)) ⌝ }
 {
-    let b = tables::POINT_NUMBERS + i * tables::NUMBERS_OF_POINT;
+    let b = tables::POINT_NUMBERS_AT + i * tables::POINT_NUMBERS_WIDTH;
     Point {
-        curve: words[tables::POINTS + i] as usize,
-        x: numbers[b + 0],
-        y: numbers[b + 1],
+        curve: words[tables::POINTS_AT + i] as usize,
+        x: numbers[b + tables::POINT_X],
+        y: numbers[b + tables::POINT_Y],
     }
 }
 
@@ -105,7 +106,7 @@ fn point_row(words: &[u64], numbers: &[f64], i: usize) -> Point
 pub fn point_at(words: &[u64], numbers: &[f64], i: usize) -> Point
     ensures { λ r. ⌜ ((m : Network) → Stands m (now (words .entry)) (now (numbers .entry)) → r ≡ pointBack (getD (m .points) i noPoint)) ⌝ }
 {
-    if codes::have_room(words, numbers, 1024, i) {
+    if tables::have_room(words, numbers, tables::POINTS_MOST, i) {
         return point_row(words, numbers, i);
     }
     Point {
@@ -116,12 +117,12 @@ pub fn point_at(words: &[u64], numbers: &[f64], i: usize) -> Point
 }
 
 fn multiplier_row(words: &[u64], numbers: &[f64], i: usize) -> Multiplier
-    requires { ⌜ (i < 2048) × (17128 ≤ length (now words)) × (8192 ≤ length (now numbers)) ⌝ }
+    requires { ⌜ (i < roomMultipliers) × (recordWords ≤ length (now words)) × (roomNumbers ≤ length (now numbers)) ⌝ }
     ensures { λ r. ⌜ ((m : Network) → Stands m (now (words .entry)) (now (numbers .entry)) → r ≡ multiplierBack (getD (m .multipliers) i noMultiplier)) ⌝ }
 {
     Multiplier {
-        pattern: words[tables::MULTIPLIERS + i] as usize,
-        value: numbers[tables::MULTIPLIER_NUMBERS + i],
+        pattern: words[tables::MULTIPLIERS_AT + i] as usize,
+        value: numbers[tables::MULTIPLIER_NUMBERS_AT + i],
     }
 }
 
@@ -129,7 +130,7 @@ fn multiplier_row(words: &[u64], numbers: &[f64], i: usize) -> Multiplier
 pub fn multiplier_at(words: &[u64], numbers: &[f64], i: usize) -> Multiplier
     ensures { λ r. ⌜ ((m : Network) → Stands m (now (words .entry)) (now (numbers .entry)) → r ≡ multiplierBack (getD (m .multipliers) i noMultiplier)) ⌝ }
 {
-    if codes::have_room(words, numbers, 2048, i) {
+    if tables::have_room(words, numbers, tables::MULTIPLIERS_MOST, i) {
         return multiplier_row(words, numbers, i);
     }
     Multiplier {
@@ -141,16 +142,16 @@ pub fn multiplier_at(words: &[u64], numbers: &[f64], i: usize) -> Multiplier
 // ---- demands and times
 
 fn demand_row(words: &[u64], numbers: &[f64], i: usize) -> Demand
-    requires { ⌜ (i < 512) × (17128 ≤ length (now words)) × (8192 ≤ length (now numbers)) ⌝ }
+    requires { ⌜ (i < roomDemands) × (recordWords ≤ length (now words)) × (roomNumbers ≤ length (now numbers)) ⌝ }
     ensures { λ r. ⌜ ((m : Network) → Stands m (now (words .entry)) (now (numbers .entry)) → r ≡ demandBack (getD (m .demands) i noDemand)) ⌝ }
 {
-    let a = tables::DEMANDS + i * tables::DEMAND_WORDS;
-    let pattern = stored::field_at(words, a + 2);
-    let index = codes::found_from(words[a + 4]);
+    let a = tables::DEMANDS_AT + i * tables::DEMANDS_WIDTH;
+    let pattern = stored::field_at(words, a + tables::DEMAND_NAME);
+    let index = codes::found_from(words[a + tables::DEMAND_INDEX]);
     Demand {
-        node: words[a + 0] as usize,
-        own: words[a + 1] == 1,
-        base: numbers[tables::DEMAND_NUMBERS + i],
+        node: words[a + tables::DEMAND_NODE] as usize,
+        own: words[a + tables::DEMAND_OWN] == 1,
+        base: numbers[tables::DEMAND_NUMBERS_AT + i],
         pattern,
         index,
     }
@@ -160,7 +161,7 @@ fn demand_row(words: &[u64], numbers: &[f64], i: usize) -> Demand
 pub fn demand_at(words: &[u64], numbers: &[f64], i: usize) -> Demand
     ensures { λ r. ⌜ ((m : Network) → Stands m (now (words .entry)) (now (numbers .entry)) → r ≡ demandBack (getD (m .demands) i noDemand)) ⌝ }
 {
-    if codes::have_room(words, numbers, 512, i) {
+    if tables::have_room(words, numbers, tables::DEMANDS_MOST, i) {
         return demand_row(words, numbers, i);
     }
     Demand {
@@ -173,18 +174,18 @@ pub fn demand_at(words: &[u64], numbers: &[f64], i: usize) -> Demand
 }
 
 fn time_row(words: &[u64], i: usize) -> Amount
-    requires { ⌜ (i < 6) × (17128 ≤ length (now words)) ⌝ }
+    requires { ⌜ (i < roomTimes) × (recordWords ≤ length (now words)) ⌝ }
     ensures { λ r. ⌜ ((m : Network) (f : List Float) → Stands m (now (words .entry)) f → r ≡ amountOf (getD (m .times) i none)) ⌝ }
 {
-    let a = tables::TIMES + i * tables::TIME_WORDS;
-    codes::amount_from(words[a + 0], words[a + 1])
+    let a = tables::TIMES_AT + i * tables::TIMES_WIDTH;
+    codes::amount_from(words[a + tables::TIME_SET], words[a + tables::TIME_SECONDS])
 }
 
 // Time number i: duration, hydraulic timestep, pattern timestep, report timestep, pattern start, start clocktime.
 pub fn time_at(words: &[u64], i: usize) -> Amount
     ensures { λ r. ⌜ ((m : Network) (f : List Float) → Stands m (now (words .entry)) f → r ≡ amountOf (getD (m .times) i none)) ⌝ }
 {
-    if codes::has_room(words, 6, i) {
+    if tables::has_room(words, tables::TIMES_MOST, i) {
         return time_row(words, i);
     }
     Amount::Unset

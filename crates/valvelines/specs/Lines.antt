@@ -8,7 +8,7 @@ use Rattle.fields.specs.Fields.{Name, fieldsAt}
 use Rattle.fields.specs.declared.Field.{Field}
 use Rattle.letters.specs.Words.{spelled}
 use Rattle.scope.specs.declared.Reason.{Reason}
-use Rattle.scope.specs.declared.Reason.the-variants.{Missing, Unknown}
+use Rattle.scope.specs.declared.Reason.the-variants.{Missing, UnknownWord}
 use Rattle.scope.specs.declared.ValveType.{ValveType}
 use Rattle.scope.specs.declared.ValveType.the-variants.{Prv, Psv, Pbv, Pcv}
 use Rattle.scope.specs.Spelling.{wordPrv, wordPsv, wordPbv, wordPcv}
@@ -27,11 +27,11 @@ pressureOrPosition w =
     cond (spelled w wordPrv) (good Prv)
     (cond (spelled w wordPsv) (good Psv)
     (cond (spelled w wordPbv) (good Pbv)
-    (cond (spelled w wordPcv) (good Pcv) (bad Unknown))))
+    (cond (spelled w wordPcv) (good Pcv) (bad UnknownWord))))
 
 abbrev pub TypeAs : Read ValveType → TypeRead → Type 0
 TypeAs o (type.Type t) = o ≡ good t
-TypeAs o type.NoType = o ≡ bad Unknown
+TypeAs o type.NoType = o ≡ bad UnknownWord
 
 abbrev pub SettingAs : List ℕ → Took scope.Setting → TookSetting → Type 0
 SettingAs l o (Setting x c next) = (o ≡ took (record { value = x; curve = optIn l c }) (fieldsAt l next)) × MayFit l c

@@ -5,13 +5,13 @@ ghost use Rattle.scope.specs.Links.{typeOf, settingFrom, valveOf};
 ghost use Rattle.linklines.specs.Lines.{NamesFit, LinkAs};
 ghost use Rattle.valvelines.specs.Lines.{pressureOrPosition, TypeAs, SettingAs, settingReason, OverridingAs, valveAfterType};
 use fields::Field;
-use linklines::LinkKind;
 use linklines::LinkLine;
 use linklines::LinkNames;
 use linklines::LinkRead;
 use linklines::NamesRead;
-use linklines::Valve;
+use scope::LinkKind;
 use scope::Reason;
+use scope::Valve;
 use scope::ValveType;
 use takers::TookNumber;
 
@@ -124,7 +124,7 @@ fn read_after_type(
     };
     let curve = take_overriding(l, at3, own);
     let valve = Valve {
-        kind,
+        valve_type: kind,
         diameter,
         setting,
         minor,
@@ -132,7 +132,7 @@ fn read_after_type(
     };
     LinkRead::Line(LinkLine {
         names,
-        kind: LinkKind::ValveKind(valve),
+        kind: LinkKind::Valve(valve),
     })
 }
 
@@ -154,7 +154,7 @@ pub fn read_valve(l: &[u8], at: usize) -> LinkRead
     };
     let known = read_type(fields::letters_of(l, word));
     let TypeRead::Type(kind) = known else {
-        return LinkRead::NoLine(Reason::Unknown);
+        return LinkRead::NoLine(Reason::UnknownWord);
     };
     read_after_type(l, word.end, names, diameter, kind)
 }

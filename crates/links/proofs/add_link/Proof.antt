@@ -14,20 +14,20 @@ use Rattle.links.proofs.add_link.Reads as reads
 use Rattle.links.proofs.add_link.Lts as lts
 use Rattle.fields.proofs.letters_of.Reads as letters-of-reads
 use Rattle.links.proofs.put_link.Reads as put-link-reads
-use Rattle.tables.proofs.find_link_by.Reads as find-link-by-reads
+use Rattle.tables.proofs.find.Reads as find-reads
 use Rattle.tables.proofs.id_words.Reads as id-words-reads
 
 id-words-requires : tie.Need-id-words-requires
 id-words-requires c κs = search needs
 
-array-read-find-link-by : tie.Need-array-read-find-link-by
-array-read-find-link-by c = search needs
+array-read-find : tie.Need-array-read-find
+array-read-find c = search needs
 
 letters-of-requires : tie.Need-letters-of-requires
 letters-of-requires c κs = search needs
 
-find-link-by-requires : tie.Need-find-link-by-requires
-find-link-by-requires c κs =
+find-requires : tie.Need-find-requires
+find-requires c κs =
     let s = c .before .before .before .before .before .before in
     let held = s .pre .0 .holds in
     ((s .pre .0 .m, held .words, count-links held), told-key (nameIn (now (s .args .text)) (s .args .id)) (c .before .before .id-words .ensures) (c .letters-of .ensures))
@@ -39,7 +39,7 @@ same-length : tie.Need-same-length
 same-length c = search needs
 
 returns : tie.Need-returns
-returns c = λ m h. link-used h (nameIn (now (c .before .before .before .before .before .before .before .before .before .args .text)) (c .before .before .before .before .before .before .before .before .before .args .id)) (endsAt (c .before .before .before .before .before .before .before .before .before .args .from) (c .before .before .before .before .before .before .before .before .before .args .to)) (kindIn (now (c .before .before .before .before .before .before .before .before .before .args .text)) (c .before .before .before .before .before .before .before .before .before .args .kind)) (told-found (linkIds m) (c .before .before .before .letters-of .ensures) (c .before .before .find-link-by .ensures m (h .words) (count-links h)) (c .enum-told .given .1))
+returns c = λ m h. link-used h (nameIn (now (c .before .before .before .before .before .before .before .before .before .args .text)) (c .before .before .before .before .before .before .before .before .before .args .id)) (endsAt (c .before .before .before .before .before .before .before .before .before .args .from) (c .before .before .before .before .before .before .before .before .before .args .to)) (kindIn (now (c .before .before .before .before .before .before .before .before .before .args .text)) (c .before .before .before .before .before .before .before .before .before .args .kind)) (told-found (linkIds m) (c .before .before .before .letters-of .ensures) (c .before .before .find .ensures m (h .words) (count-links h)) (c .enum-told .given .1))
 
 enum-told-2 : tie.Need-enum-told-2
 enum-told-2 c = search needs
@@ -57,22 +57,22 @@ same-length-3 : tie.Need-same-length-3
 same-length-3 c = search needs
 
 returns-2 : tie.Need-returns-2
-returns-2 c = λ m h. link-stored h (nameIn (now (c .before .before .before .before .before .before .before .before .before .before .before .before .before .before .before .before .before .args .text)) (c .before .before .before .before .before .before .before .before .before .before .before .before .before .before .before .before .before .args .id)) (endsAt (c .before .before .before .before .before .before .before .before .before .before .before .before .before .before .before .before .before .args .from) (c .before .before .before .before .before .before .before .before .before .before .before .before .before .before .before .before .before .args .to)) (kindIn (now (c .before .before .before .before .before .before .before .before .before .before .before .before .before .before .before .before .before .args .text)) (c .before .before .before .before .before .before .before .before .before .before .before .before .before .before .before .before .before .args .kind)) (told-found (linkIds m) (c .before .before .before .before .before .before .before .before .before .before .before .letters-of .ensures) (c .before .before .before .before .before .before .before .before .before .before .find-link-by .ensures m (h .words) (count-links h)) (c .before .before .before .before .before .before .before .before .enum-told2 .given .1)) (sits-span (now (c .before .before .before .before .before .before .before .before .before .before .before .before .before .before .before .before .before .args .text)) (c .before .before .before .before .before .before .before .before .before .before .before .before .before .before .before .before .before .args .id) (c .before .before .before .before .before .before .before .before .before .before .before .before .before .before .before .before .before .pre .1)) (c .before .before .before .before .before .before .before .if1 .taken) (c .before .before .before .before .put-link .ensures (nameIn (now (c .before .before .before .before .before .before .before .before .before .before .before .before .before .before .before .before .before .args .text)) (c .before .before .before .before .before .before .before .before .before .before .before .before .before .before .before .before .before .args .id)) (c .before .before .before .before .before .before .before .before .before .before .before .before .before .id-words .ensures) .0) (c .before .before .before .before .put-link .ensures (nameIn (now (c .before .before .before .before .before .before .before .before .before .before .before .before .before .before .before .before .before .args .text)) (c .before .before .before .before .before .before .before .before .before .before .before .before .before .before .before .before .before .args .id)) (c .before .before .before .before .before .before .before .before .before .before .before .before .before .id-words .ensures) .1)
+returns-2 c = λ m h. link-stored h (nameIn (now (c .before .before .before .before .before .before .before .before .before .before .before .before .before .before .before .before .before .args .text)) (c .before .before .before .before .before .before .before .before .before .before .before .before .before .before .before .before .before .args .id)) (endsAt (c .before .before .before .before .before .before .before .before .before .before .before .before .before .before .before .before .before .args .from) (c .before .before .before .before .before .before .before .before .before .before .before .before .before .before .before .before .before .args .to)) (kindIn (now (c .before .before .before .before .before .before .before .before .before .before .before .before .before .before .before .before .before .args .text)) (c .before .before .before .before .before .before .before .before .before .before .before .before .before .before .before .before .before .args .kind)) (told-found (linkIds m) (c .before .before .before .before .before .before .before .before .before .before .before .letters-of .ensures) (c .before .before .before .before .before .before .before .before .before .before .find .ensures m (h .words) (count-links h)) (c .before .before .before .before .before .before .before .before .enum-told2 .given .1)) (sits-span (now (c .before .before .before .before .before .before .before .before .before .before .before .before .before .before .before .before .before .args .text)) (c .before .before .before .before .before .before .before .before .before .before .before .before .before .before .before .before .before .args .id) (c .before .before .before .before .before .before .before .before .before .before .before .before .before .before .before .before .before .pre .1)) (c .before .before .before .before .before .before .before .if1 .taken) (c .before .before .before .before .put-link .ensures (nameIn (now (c .before .before .before .before .before .before .before .before .before .before .before .before .before .before .before .before .before .args .text)) (c .before .before .before .before .before .before .before .before .before .before .before .before .before .before .before .before .before .args .id)) (c .before .before .before .before .before .before .before .before .before .before .before .before .before .id-words .ensures) .0) (c .before .before .before .before .put-link .ensures (nameIn (now (c .before .before .before .before .before .before .before .before .before .before .before .before .before .before .before .before .before .args .text)) (c .before .before .before .before .before .before .before .before .before .before .before .before .before .before .before .before .before .args .id)) (c .before .before .before .before .before .before .before .before .before .before .before .before .before .id-words .ensures) .1)
 
 same-length-4 : tie.Need-same-length-4
 same-length-4 c = search needs
 
 returns-3 : tie.Need-returns-3
-returns-3 c = λ m h. links-full h (nameIn (now (c .before .before .before .before .before .before .before .before .before .before .args .text)) (c .before .before .before .before .before .before .before .before .before .before .args .id)) (endsAt (c .before .before .before .before .before .before .before .before .before .before .args .from) (c .before .before .before .before .before .before .before .before .before .before .args .to)) (kindIn (now (c .before .before .before .before .before .before .before .before .before .before .args .text)) (c .before .before .before .before .before .before .before .before .before .before .args .kind)) (told-found (linkIds m) (c .before .before .before .before .letters-of .ensures) (c .before .before .before .find-link-by .ensures m (h .words) (count-links h)) (c .before .enum-told2 .given .1)) (c .if1 .left)
+returns-3 c = λ m h. links-full h (nameIn (now (c .before .before .before .before .before .before .before .before .before .before .args .text)) (c .before .before .before .before .before .before .before .before .before .before .args .id)) (endsAt (c .before .before .before .before .before .before .before .before .before .before .args .from) (c .before .before .before .before .before .before .before .before .before .before .args .to)) (kindIn (now (c .before .before .before .before .before .before .before .before .before .before .args .text)) (c .before .before .before .before .before .before .before .before .before .before .args .kind)) (told-found (linkIds m) (c .before .before .before .before .letters-of .ensures) (c .before .before .before .find .ensures m (h .words) (count-links h)) (c .before .enum-told2 .given .1)) (c .if1 .left)
 
 pub add-link-spec : {M : Type 1} → statement M
 add-link-spec =
     tie.close
     (tie.spec
     id-words-requires
-    array-read-find-link-by
+    array-read-find
     letters-of-requires
-    find-link-by-requires
+    find-requires
     enum-told
     same-length
     returns

@@ -12,8 +12,8 @@ use Rattle.links.proofs.kind_words.Tie as tie
 use Rattle.links.proofs.kind_words.Reads as reads
 use Rattle.links.proofs.kind_words.Lts as lts
 use Rattle.tables.proofs.name_words.Reads as name-words-reads
-use Rattle.numbering.proofs.pipe_status_number.Reads as pipe-status-number-reads
-use Rattle.numbering.proofs.valve_type_number.Reads as valve-type-number-reads
+use Rattle.codes.proofs.pipe_status_number.Reads as pipe-status-number-reads
+use Rattle.codes.proofs.valve_type_number.Reads as valve-type-number-reads
 
 enum-known-kind : tie.Need-enum-known-kind
 enum-known-kind c = search needs
@@ -55,7 +55,7 @@ returns-2 : tie.Need-returns-2
 returns-2 c = rw (c .before .before .kind2 .given .1, c .name-words .ensures) (ap (λ (x : List ℕ). 2 ∷ 0 ∷ x) (name-pair (optIn (now (c .before .before .before .before .before .args .text)) (c .before .before .kind2 .given .0 .0 .head))))
 
 returns-3 : tie.Need-returns-3
-returns-3 c = rw (c .before .before .before .kind3 .given .1, c .valve-type-number .ensures, c .before .name-words2 .ensures) (ap (λ (x : List ℕ). 3 ∷ typeNo (c .before .before .before .kind3 .given .0 .0 .kind) ∷ x) (name-pair (optIn (now (c .before .before .before .before .before .before .args .text)) (c .before .before .before .kind3 .given .0 .0 .curve))))
+returns-3 c = rw (c .before .before .before .kind3 .given .1, c .valve-type-number .ensures, c .before .name-words2 .ensures) (ap (λ (x : List ℕ). 3 ∷ typeNo (c .before .before .before .kind3 .given .0 .0 .«valve_type») ∷ x) (name-pair (optIn (now (c .before .before .before .before .before .before .args .text)) (c .before .before .before .kind3 .given .0 .0 .curve))))
 
 pub kind-words-spec : {M : Type 1} → statement M
 kind-words-spec =

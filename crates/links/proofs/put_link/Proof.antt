@@ -6,7 +6,7 @@ use lib.ListN.{getD}
 use lib.Ieee.{Float}
 use Rattle.scope.specs.Tables.{slotOf}
 use Rattle.tables.specs.Table.{splice}
-use Rattle.tables.specs.Layout.{linksAt, linkSize, linkSlotsAt, linkNumbersAt, linkNumbersSize}
+use Rattle.scope.specs.Layout.{idKey, linksAt, linksWidth, linkSlotsAt, linkNumbersAt, linkNumbersWidth}
 use Rattle.tables.proofs.SlotLaws.{mark-alike}
 use Rattle.links.specs.Storing.{linkIn}
 use Rattle.links.proofs.StoreLaws.{link-row}
@@ -96,9 +96,9 @@ returns c = λ id e.
     let a = c .before .before .before .before .before .before .before .before .before .before .before .before .before .before .before .before .before .before .before .before .args in
     let link = linkIn (now (a .text)) id (a .from) (a .to) (a .kind) in (
       mark-alike (a .n + 1) (c .before .before .before .before .before .before .before .mark .ensures)
-          (c .before .before .before .before .before .before .before .before .before .before .before .before .paste-words .ensures ∙ ap (λ (r : List ℕ). splice (now (a .words)) (linksAt + a .n * linkSize) r) (link-row link e (c .before .before .before .before .before .before .before .before .before .before .before .before .before .before .before .before .kind-words .ensures)))
-          (ap (λ (k : ℕ). linkSlotsAt + k) (c .before .before .before .before .before .before .before .before .before .slot-of .ensures ∙ ap (λ (l : List ℕ). slotOf (getD l 2 0)) e)),
-      c .before .before .paste-numbers .ensures ∙ ap (λ (r : List Float). splice (now (a .numbers)) (linkNumbersAt + a .n * linkNumbersSize) r) (c .before .before .before .before .before .before .before .before .before .before .before .before .before .before .before .kind-numbers .ensures (now (a .text))),
+          (c .before .before .before .before .before .before .before .before .before .before .before .before .paste-words .ensures ∙ ap (λ (r : List ℕ). splice (now (a .words)) (linksAt + a .n * linksWidth) r) (link-row link e (c .before .before .before .before .before .before .before .before .before .before .before .before .before .before .before .before .kind-words .ensures)))
+          (ap (λ (k : ℕ). linkSlotsAt + k) (c .before .before .before .before .before .before .before .before .before .slot-of .ensures ∙ ap (λ (l : List ℕ). slotOf (getD l idKey 0)) e)),
+      c .before .before .paste-numbers .ensures ∙ ap (λ (r : List Float). splice (now (a .numbers)) (linkNumbersAt + a .n * linkNumbersWidth) r) (c .before .before .before .before .before .before .before .before .before .before .before .before .before .before .before .kind-numbers .ensures (now (a .text))),
     )
 
 pub put-link-spec : {M : Type 1} → statement M

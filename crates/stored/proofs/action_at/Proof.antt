@@ -1,6 +1,7 @@
 use Prim.Native.Nat.{ℕ, _+_}
 use native.Mathlib.Omega.{arith}
 use mathlib.Core.Path.{_≡_}
+use Rattle.scope.specs.Layout.{nameLength, clauseName}
 use borrow.Author.Needs.{needs}
 use Rattle.stored.proofs.action_at.Statement.{statement}
 use Rattle.stored.proofs.action_at.Tie as tie
@@ -47,7 +48,7 @@ shared-slice-read-t15 c = search needs
 
 returns : tie.Need-returns
 returns c =
-    let e : c .before .before .before .before .before .before .args .a + 5 + 1 ≡ c .before .before .before .before .before .before .args .a + 6 = omega arith in
+    let e : c .before .before .before .before .before .before .args .a + clauseName + nameLength ≡ c .before .before .before .before .before .before .args .a + (clauseName + nameLength) = omega arith in
     rw (c .before .before .span-at .ensures, e, c .before .before .before .value-from .ensures)
 
 pub action-at-spec : {M : Type 1} → statement M

@@ -2,22 +2,24 @@ use denote.Ref.{now}
 use mathlib.Core.Path.{sym, ap, _∙_}
 use lib.ListN.{length}
 use Rattle.tables.proofs.ClearLaws.{zero-number}
-use Rattle.stored.specs.Back.{noClause, clauseBack}
-use Rattle.codes.proofs.RoomLaws.{rooms-are}
+use Rattle.stored.specs.Back.{clauseBack}
+use Rattle.scope.specs.Records.{noClause}
+use Rattle.tables.proofs.RoomLaws.{rooms-are}
 use Rattle.stored.proofs.PastLaws.{past-both}
+use Rattle.scope.specs.Sections.{roomClauses}
 use borrow.Author.Needs.{needs}
 use Rattle.stored.proofs.clause_at.Statement.{statement}
 use Rattle.stored.proofs.clause_at.Tie as tie
 use Rattle.stored.proofs.clause_at.Reads as reads
 use Rattle.stored.proofs.clause_at.Lts as lts
-use Rattle.codes.proofs.have_room.Reads as have-room-reads
+use Rattle.tables.proofs.have_room.Reads as have-room-reads
 use Rattle.stored.proofs.clause_row.Reads as clause-row-reads
 
 have-room-requires : tie.Need-have-room-requires
 have-room-requires c κs = search needs
 
 clause-row-requires : tie.Need-clause-row-requires
-clause-row-requires c κs = rooms-are (length (now (c .before .before .before .before .args .words))) 512 (c .before .before .before .before .args .i) (length (now (c .before .before .before .before .args .numbers))) (sym (c .before .have-room .ensures) ∙ c .if1 .taken)
+clause-row-requires c κs = rooms-are (length (now (c .before .before .before .before .args .words))) roomClauses (c .before .before .before .before .args .i) (length (now (c .before .before .before .before .args .numbers))) (sym (c .before .have-room .ensures) ∙ c .if1 .taken)
 
 returns : tie.Need-returns
 returns c = search needs

@@ -2,6 +2,7 @@ use Prim.Native.Nat.{_+_}
 use borrow.Author.Tests.{ne-eqb}
 use denote.Ref.{now}
 use lib.ListN.{getD}
+use Rattle.scope.specs.Layout.{clauseKind}
 use borrow.Author.Needs.{needs}
 use Rattle.stored.proofs.clause_by.Statement.{statement}
 use Rattle.stored.proofs.clause_by.Tie as tie
@@ -29,7 +30,7 @@ action-at-requires : tie.Need-action-at-requires
 action-at-requires c κs = search needs
 
 returns-2 : tie.Need-returns-2
-returns-2 c = rw (ne-eqb (getD (now (c .before .before .before .before .args .words)) (c .before .before .before .before .args .a + 0) 0) 1 (c .before .if1 .left), c .action-at .ensures)
+returns-2 c = rw (ne-eqb (getD (now (c .before .before .before .before .args .words)) (c .before .before .before .before .args .a + clauseKind) 0) 1 (c .before .if1 .left), c .action-at .ensures)
 
 pub clause-by-spec : {M : Type 1} → statement M
 clause-by-spec =

@@ -1,6 +1,7 @@
 use Prim.Native.Nat.{ℕ, _+_}
 use native.Mathlib.Omega.{arith}
 use mathlib.Core.Path.{_≡_}
+use Rattle.scope.specs.Layout.{nameLength, clauseName}
 use borrow.Author.Needs.{needs}
 use Rattle.stored.proofs.condition_at.Statement.{statement}
 use Rattle.stored.proofs.condition_at.Tie as tie
@@ -68,7 +69,7 @@ field-at-requires c κs = search needs
 
 returns : tie.Need-returns
 returns c =
-    let e : c .before .before .before .before .before .before .before .before .before .before .args .a + 5 + 1 ≡ c .before .before .before .before .before .before .before .before .before .before .args .a + 6 = omega arith in
+    let e : c .before .before .before .before .before .before .before .before .before .before .args .a + clauseName + nameLength ≡ c .before .before .before .before .before .before .before .before .before .before .args .a + (clauseName + nameLength) = omega arith in
     rw (c .field-at .ensures, e, c .before .value-from .ensures, c .before .before .before .comparison-from .ensures, c .before .before .before .before .before .target-from .ensures, c .before .before .before .before .before .before .before .operator-from .ensures)
 
 pub condition-at-spec : {M : Type 1} → statement M

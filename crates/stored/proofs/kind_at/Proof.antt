@@ -2,6 +2,7 @@ use Prim.Native.Nat.{_+_}
 use borrow.Author.Tests.{ne-eqb}
 use denote.Ref.{now}
 use lib.ListN.{getD}
+use Rattle.scope.specs.Layout.{nodeKind}
 use borrow.Author.Needs.{needs}
 use Rattle.stored.proofs.kind_at.Statement.{statement}
 use Rattle.stored.proofs.kind_at.Tie as tie
@@ -45,7 +46,7 @@ junction-at-requires : tie.Need-junction-at-requires
 junction-at-requires c κs = search needs
 
 returns-3 : tie.Need-returns-3
-returns-3 c = rw (ne-eqb (getD (now (c .before .before .before .before .before .before .before .args .words)) (c .before .before .before .before .before .before .before .args .a + 3) 0) 2 (c .before .before .before .if1 .left), ne-eqb (getD (now (c .before .before .before .before .before .before .before .args .words)) (c .before .before .before .before .before .before .before .args .a + 3) 0) 3 (c .before .if2 .left), c .junction-at .ensures)
+returns-3 c = rw (ne-eqb (getD (now (c .before .before .before .before .before .before .before .args .words)) (c .before .before .before .before .before .before .before .args .a + nodeKind) 0) 2 (c .before .before .before .if1 .left), ne-eqb (getD (now (c .before .before .before .before .before .before .before .args .words)) (c .before .before .before .before .before .before .before .args .a + nodeKind) 0) 3 (c .before .if2 .left), c .junction-at .ensures)
 
 pub kind-at-spec : {M : Type 1} → statement M
 kind-at-spec =

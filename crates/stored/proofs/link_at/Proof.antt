@@ -1,24 +1,25 @@
 use denote.Ref.{now}
 use mathlib.Core.Path.{sym, ap, _∙_}
 use lib.ListN.{length}
-use Rattle.scope.specs.Rules.{noLink}
+use Rattle.scope.specs.Records.{noLink}
 use Rattle.tables.proofs.ClearLaws.{zero-number}
 use Rattle.stored.specs.Back.{linkBack}
-use Rattle.codes.proofs.RoomLaws.{rooms-are}
+use Rattle.tables.proofs.RoomLaws.{rooms-are}
 use Rattle.stored.proofs.PastLaws.{past-both}
+use Rattle.scope.specs.Sections.{roomLinks}
 use borrow.Author.Needs.{needs}
 use Rattle.stored.proofs.link_at.Statement.{statement}
 use Rattle.stored.proofs.link_at.Tie as tie
 use Rattle.stored.proofs.link_at.Reads as reads
 use Rattle.stored.proofs.link_at.Lts as lts
-use Rattle.codes.proofs.have_room.Reads as have-room-reads
+use Rattle.tables.proofs.have_room.Reads as have-room-reads
 use Rattle.stored.proofs.link_row.Reads as link-row-reads
 
 have-room-requires : tie.Need-have-room-requires
 have-room-requires c κs = search needs
 
 link-row-requires : tie.Need-link-row-requires
-link-row-requires c κs = rooms-are (length (now (c .before .before .before .before .args .words))) 256 (c .before .before .before .before .args .i) (length (now (c .before .before .before .before .args .numbers))) (sym (c .before .have-room .ensures) ∙ c .if1 .taken)
+link-row-requires c κs = rooms-are (length (now (c .before .before .before .before .args .words))) roomLinks (c .before .before .before .before .args .i) (length (now (c .before .before .before .before .args .numbers))) (sym (c .before .have-room .ensures) ∙ c .if1 .taken)
 
 returns : tie.Need-returns
 returns c = search needs

@@ -2,6 +2,7 @@ use Prim.Native.Nat.{_+_}
 use borrow.Author.Tests.{ne-eqb}
 use denote.Ref.{now}
 use lib.ListN.{getD}
+use Rattle.scope.specs.Layout.{linkKind}
 use borrow.Author.Needs.{needs}
 use Rattle.stored.proofs.link_kind_at.Statement.{statement}
 use Rattle.stored.proofs.link_kind_at.Tie as tie
@@ -45,7 +46,7 @@ pipe-at-requires : tie.Need-pipe-at-requires
 pipe-at-requires c κs = search needs
 
 returns-3 : tie.Need-returns-3
-returns-3 c = rw (ne-eqb (getD (now (c .before .before .before .before .before .before .before .args .words)) (c .before .before .before .before .before .before .before .args .a + 5) 0) 2 (c .before .before .before .if1 .left), ne-eqb (getD (now (c .before .before .before .before .before .before .before .args .words)) (c .before .before .before .before .before .before .before .args .a + 5) 0) 3 (c .before .if2 .left), c .pipe-at .ensures)
+returns-3 c = rw (ne-eqb (getD (now (c .before .before .before .before .before .before .before .args .words)) (c .before .before .before .before .before .before .before .args .a + linkKind) 0) 2 (c .before .before .before .if1 .left), ne-eqb (getD (now (c .before .before .before .before .before .before .before .args .words)) (c .before .before .before .before .before .before .before .args .a + linkKind) 0) 3 (c .before .if2 .left), c .pipe-at .ensures)
 
 pub link-kind-at-spec : {M : Type 1} → statement M
 link-kind-at-spec =

@@ -2,6 +2,7 @@ use Prim.Native.Nat.{_+_, _*_}
 use denote.Ref.{now}
 use mathlib.Core.Path.{_∙_}
 use Rattle.stored.proofs.BackLaws.{link-is, span-first}
+use Rattle.scope.specs.Layout.{linksAt, linksWidth}
 use borrow.Author.Needs.{needs}
 use Rattle.stored.proofs.link_row.Statement.{statement}
 use Rattle.stored.proofs.link_row.Tie as tie
@@ -47,7 +48,7 @@ shared-slice-read-t16 : tie.Need-shared-slice-read-t16
 shared-slice-read-t16 c = search needs
 
 returns : tie.Need-returns
-returns c = λ m g. rw (c .before .before .before .span-at .ensures ∙ span-first (now (c .before .before .before .before .before .before .args .words)) (2048 + c .before .before .before .before .before .before .args .i * 9), c .before .before .link-kind-at .ensures) (link-is g (c .before .before .before .before .before .before .args .i) (c .before .before .before .before .before .before .pre .0))
+returns c = λ m g. rw (c .before .before .before .span-at .ensures ∙ span-first (now (c .before .before .before .before .before .before .args .words)) (linksAt + c .before .before .before .before .before .before .args .i * linksWidth), c .before .before .link-kind-at .ensures) (link-is g (c .before .before .before .before .before .before .args .i) (c .before .before .before .before .before .before .pre .0))
 
 pub link-row-spec : {M : Type 1} → statement M
 link-row-spec =

@@ -4,21 +4,22 @@ use lib.ListN.{length}
 use Rattle.scope.specs.Records.{noNode}
 use Rattle.tables.proofs.ClearLaws.{zero-number}
 use Rattle.stored.specs.Back.{nodeBack}
-use Rattle.codes.proofs.RoomLaws.{rooms-are}
+use Rattle.tables.proofs.RoomLaws.{rooms-are}
 use Rattle.stored.proofs.PastLaws.{past-both}
+use Rattle.scope.specs.Sections.{roomNodes}
 use borrow.Author.Needs.{needs}
 use Rattle.stored.proofs.node_at.Statement.{statement}
 use Rattle.stored.proofs.node_at.Tie as tie
 use Rattle.stored.proofs.node_at.Reads as reads
 use Rattle.stored.proofs.node_at.Lts as lts
-use Rattle.codes.proofs.have_room.Reads as have-room-reads
+use Rattle.tables.proofs.have_room.Reads as have-room-reads
 use Rattle.stored.proofs.node_row.Reads as node-row-reads
 
 have-room-requires : tie.Need-have-room-requires
 have-room-requires c κs = search needs
 
 node-row-requires : tie.Need-node-row-requires
-node-row-requires c κs = rooms-are (length (now (c .before .before .before .before .args .words))) 256 (c .before .before .before .before .args .i) (length (now (c .before .before .before .before .args .numbers))) (sym (c .before .have-room .ensures) ∙ c .if1 .taken)
+node-row-requires c κs = rooms-are (length (now (c .before .before .before .before .args .words))) roomNodes (c .before .before .before .before .args .i) (length (now (c .before .before .before .before .args .numbers))) (sym (c .before .have-room .ensures) ∙ c .if1 .taken)
 
 returns : tie.Need-returns
 returns c = search needs

@@ -2,6 +2,7 @@ use Prim.Native.Nat.{_+_, _*_}
 use denote.Ref.{now}
 use mathlib.Core.Path.{_∙_}
 use Rattle.stored.proofs.BackLaws.{node-is, span-first}
+use Rattle.scope.specs.Layout.{nodesAt, nodesWidth}
 use borrow.Author.Needs.{needs}
 use Rattle.stored.proofs.node_row.Statement.{statement}
 use Rattle.stored.proofs.node_row.Tie as tie
@@ -56,7 +57,7 @@ shared-slice-read-t20 : tie.Need-shared-slice-read-t20
 shared-slice-read-t20 c = search needs
 
 returns : tie.Need-returns
-returns c = λ m g. rw (c .before .before .before .before .span-at .ensures ∙ span-first (now (c .before .before .before .before .before .before .before .args .words)) (0 + c .before .before .before .before .before .before .before .args .i * 8), c .before .before .before .kind-at .ensures) (node-is g (c .before .before .before .before .before .before .before .args .i) (c .before .before .before .before .before .before .before .pre .0))
+returns c = λ m g. rw (c .before .before .before .before .span-at .ensures ∙ span-first (now (c .before .before .before .before .before .before .before .args .words)) (nodesAt + c .before .before .before .before .before .before .before .args .i * nodesWidth), c .before .before .before .kind-at .ensures) (node-is g (c .before .before .before .before .before .before .before .args .i) (c .before .before .before .before .before .before .before .pre .0))
 
 pub node-row-spec : {M : Type 1} → statement M
 node-row-spec =

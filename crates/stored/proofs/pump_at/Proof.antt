@@ -1,6 +1,7 @@
 use Prim.Native.Nat.{ℕ, _+_}
 use native.Mathlib.Omega.{arith}
 use mathlib.Core.Path.{_≡_}
+use Rattle.scope.specs.Layout.{nameLength, linkName}
 use borrow.Author.Needs.{needs}
 use Rattle.stored.proofs.pump_at.Statement.{statement}
 use Rattle.stored.proofs.pump_at.Tie as tie
@@ -34,7 +35,7 @@ shared-slice-read-t13 c = search needs
 
 returns : tie.Need-returns
 returns c =
-    let e : c .before .before .before .before .before .args .a + 7 + 1 ≡ c .before .before .before .before .before .args .a + 8 = omega arith in
+    let e : c .before .before .before .before .before .args .a + linkName + nameLength ≡ c .before .before .before .before .before .args .a + (linkName + nameLength) = omega arith in
     rw (c .before .before .field-at .ensures, e)
 
 pub pump-at-spec : {M : Type 1} → statement M

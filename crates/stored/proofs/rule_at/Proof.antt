@@ -1,23 +1,24 @@
 use denote.Ref.{now}
 use mathlib.Core.Path.{sym, ap, _∙_}
 use lib.ListN.{length}
-use Rattle.tables.specs.Holding.{noRule}
+use Rattle.scope.specs.Records.{noRule}
 use Rattle.stored.specs.Back.{ruleBack}
-use Rattle.codes.proofs.RoomLaws.{room-is}
+use Rattle.tables.proofs.RoomLaws.{room-is}
 use Rattle.stored.proofs.PastLaws.{past-words}
+use Rattle.scope.specs.Sections.{roomRules}
 use borrow.Author.Needs.{needs}
 use Rattle.stored.proofs.rule_at.Statement.{statement}
 use Rattle.stored.proofs.rule_at.Tie as tie
 use Rattle.stored.proofs.rule_at.Reads as reads
 use Rattle.stored.proofs.rule_at.Lts as lts
-use Rattle.codes.proofs.has_room.Reads as has-room-reads
+use Rattle.tables.proofs.has_room.Reads as has-room-reads
 use Rattle.stored.proofs.rule_row.Reads as rule-row-reads
 
 has-room-requires : tie.Need-has-room-requires
 has-room-requires c κs = search needs
 
 rule-row-requires : tie.Need-rule-row-requires
-rule-row-requires c κs = room-is (length (now (c .before .before .before .args .words))) 64 (c .before .before .before .args .i) (sym (c .before .has-room .ensures) ∙ c .if1 .taken)
+rule-row-requires c κs = room-is (length (now (c .before .before .before .args .words))) roomRules (c .before .before .before .args .i) (sym (c .before .has-room .ensures) ∙ c .if1 .taken)
 
 returns : tie.Need-returns
 returns c = search needs

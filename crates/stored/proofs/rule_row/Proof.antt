@@ -1,4 +1,5 @@
 use Prim.Native.Nat.{_+_, _*_}
+use Rattle.scope.specs.Layout.{rulesAt, rulesWidth}
 use denote.Ref.{now}
 use mathlib.Core.Path.{_∙_}
 use Rattle.stored.proofs.BackLaws.{rule-is, span-first}
@@ -59,7 +60,7 @@ shared-slice-read-t9 : tie.Need-shared-slice-read-t9
 shared-slice-read-t9 c = search needs
 
 returns : tie.Need-returns
-returns c = λ m f g. rw (c .before .before .before .before .before .span-at .ensures ∙ span-first (now (c .before .before .before .before .before .before .before .args .words)) (10380 + c .before .before .before .before .before .before .before .args .i * 7), c .before .before .amount-from .ensures) (rule-is g (c .before .before .before .before .before .before .before .args .i) (c .before .before .before .before .before .before .before .pre .0))
+returns c = λ m f g. rw (c .before .before .before .before .before .span-at .ensures ∙ span-first (now (c .before .before .before .before .before .before .before .args .words)) (rulesAt + c .before .before .before .before .before .before .before .args .i * rulesWidth), c .before .before .amount-from .ensures) (rule-is g (c .before .before .before .before .before .before .before .args .i) (c .before .before .before .before .before .before .before .pre .0))
 
 pub rule-row-spec : {M : Type 1} → statement M
 rule-row-spec =

@@ -1,6 +1,7 @@
 use Prim.Native.Nat.{ℕ, _+_}
 use native.Mathlib.Omega.{arith}
 use mathlib.Core.Path.{_≡_}
+use Rattle.scope.specs.Layout.{nameLength, nodeName}
 use borrow.Author.Needs.{needs}
 use Rattle.stored.proofs.tank_at.Statement.{statement}
 use Rattle.stored.proofs.tank_at.Tie as tie
@@ -79,7 +80,7 @@ shared-slice-read-t33 c = search needs
 
 returns : tie.Need-returns
 returns c =
-    let e : c .before .before .before .before .before .before .before .before .before .before .args .a + 4 + 1 ≡ c .before .before .before .before .before .before .before .before .before .before .args .a + 5 = omega arith in
+    let e : c .before .before .before .before .before .before .before .before .before .before .args .a + nodeName + nameLength ≡ c .before .before .before .before .before .before .before .before .before .before .args .a + (nodeName + nameLength) = omega arith in
     rw (c .before .before .before .before .before .before .before .field-at .ensures, e)
 
 pub tank-at-spec : {M : Type 1} → statement M

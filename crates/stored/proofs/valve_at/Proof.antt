@@ -1,6 +1,7 @@
 use Prim.Native.Nat.{ℕ, _+_}
 use native.Mathlib.Omega.{arith}
 use mathlib.Core.Path.{_≡_}
+use Rattle.scope.specs.Layout.{nameLength, linkName}
 use borrow.Author.Needs.{needs}
 use Rattle.stored.proofs.valve_at.Statement.{statement}
 use Rattle.stored.proofs.valve_at.Tie as tie
@@ -56,7 +57,7 @@ shared-slice-read-t20 c = search needs
 
 returns : tie.Need-returns
 returns c =
-    let e : c .before .before .before .before .before .before .before .before .args .a + 7 + 1 ≡ c .before .before .before .before .before .before .before .before .args .a + 8 = omega arith in
+    let e : c .before .before .before .before .before .before .before .before .args .a + linkName + nameLength ≡ c .before .before .before .before .before .before .before .before .args .a + (linkName + nameLength) = omega arith in
     rw (c .before .before .before .field-at .ensures, e, c .before .before .before .before .valve-type-from .ensures)
 
 pub valve-at-spec : {M : Type 1} → statement M

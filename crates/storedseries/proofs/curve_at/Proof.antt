@@ -3,21 +3,22 @@ use mathlib.Core.Path.{sym, ap, _∙_}
 use lib.ListN.{length}
 use Rattle.scope.specs.Records.{noName}
 use Rattle.storedseries.specs.Back.{curveBack}
-use Rattle.codes.proofs.RoomLaws.{room-is}
+use Rattle.tables.proofs.RoomLaws.{room-is}
 use Rattle.stored.proofs.PastLaws.{past-words}
+use Rattle.scope.specs.Sections.{roomCurves}
 use borrow.Author.Needs.{needs}
 use Rattle.storedseries.proofs.curve_at.Statement.{statement}
 use Rattle.storedseries.proofs.curve_at.Tie as tie
 use Rattle.storedseries.proofs.curve_at.Reads as reads
 use Rattle.storedseries.proofs.curve_at.Lts as lts
 use Rattle.storedseries.proofs.curve_row.Reads as curve-row-reads
-use Rattle.codes.proofs.has_room.Reads as has-room-reads
+use Rattle.tables.proofs.has_room.Reads as has-room-reads
 
 has-room-requires : tie.Need-has-room-requires
 has-room-requires c κs = search needs
 
 curve-row-requires : tie.Need-curve-row-requires
-curve-row-requires c κs = room-is (length (now (c .before .before .before .args .words))) 64 (c .before .before .before .args .i) (sym (c .before .has-room .ensures) ∙ c .if1 .taken)
+curve-row-requires c κs = room-is (length (now (c .before .before .before .args .words))) roomCurves (c .before .before .before .args .i) (sym (c .before .has-room .ensures) ∙ c .if1 .taken)
 
 returns : tie.Need-returns
 returns c = search needs

@@ -1,4 +1,5 @@
 use Prim.Native.Nat.{_+_, _*_}
+use Rattle.scope.specs.Layout.{curvesAt, curvesWidth}
 use denote.Ref.{now}
 use mathlib.Core.Path.{_∙_}
 use Rattle.stored.proofs.BackLaws.{span-first}
@@ -20,7 +21,7 @@ span-at-requires : tie.Need-span-at-requires
 span-at-requires c κs = search needs
 
 returns : tie.Need-returns
-returns c = λ m f g. rw (c .span-at .ensures ∙ span-first (now (c .before .before .args .words)) (4352 + c .before .before .args .i * 3)) (curve-is g (c .before .before .args .i) (c .before .before .pre .0))
+returns c = λ m f g. rw (c .span-at .ensures ∙ span-first (now (c .before .before .args .words)) (curvesAt + c .before .before .args .i * curvesWidth)) (curve-is g (c .before .before .args .i) (c .before .before .pre .0))
 
 pub curve-row-spec : {M : Type 1} → statement M
 curve-row-spec = tie.close (tie.spec mul-span-at add-span-at span-at-requires returns)

@@ -1,24 +1,25 @@
 use denote.Ref.{now}
 use mathlib.Core.Path.{sym, ap, _∙_}
 use lib.ListN.{length}
+use Rattle.scope.specs.Records.{noDemand}
 use Rattle.tables.proofs.ClearLaws.{zero-number}
-use Rattle.tables.specs.Holding.{noDemand}
 use Rattle.storedseries.specs.Back.{demandBack}
-use Rattle.codes.proofs.RoomLaws.{rooms-are}
+use Rattle.tables.proofs.RoomLaws.{rooms-are}
 use Rattle.stored.proofs.PastLaws.{past-both}
+use Rattle.scope.specs.Sections.{roomDemands}
 use borrow.Author.Needs.{needs}
 use Rattle.storedseries.proofs.demand_at.Statement.{statement}
 use Rattle.storedseries.proofs.demand_at.Tie as tie
 use Rattle.storedseries.proofs.demand_at.Reads as reads
 use Rattle.storedseries.proofs.demand_at.Lts as lts
-use Rattle.codes.proofs.have_room.Reads as have-room-reads
+use Rattle.tables.proofs.have_room.Reads as have-room-reads
 use Rattle.storedseries.proofs.demand_row.Reads as demand-row-reads
 
 have-room-requires : tie.Need-have-room-requires
 have-room-requires c κs = search needs
 
 demand-row-requires : tie.Need-demand-row-requires
-demand-row-requires c κs = rooms-are (length (now (c .before .before .before .before .args .words))) 512 (c .before .before .before .before .args .i) (length (now (c .before .before .before .before .args .numbers))) (sym (c .before .have-room .ensures) ∙ c .if1 .taken)
+demand-row-requires c κs = rooms-are (length (now (c .before .before .before .before .args .words))) roomDemands (c .before .before .before .before .args .i) (length (now (c .before .before .before .before .args .numbers))) (sym (c .before .have-room .ensures) ∙ c .if1 .taken)
 
 returns : tie.Need-returns
 returns c = search needs

@@ -1,4 +1,5 @@
 use Prim.Native.Nat.{ℕ, _+_, _*_}
+use Rattle.scope.specs.Layout.{nameLength, demandName, demandsAt, demandsWidth}
 use native.Mathlib.Omega.{arith}
 use mathlib.Core.Path.{_≡_}
 use Rattle.storedseries.proofs.BackLaws.{demand-is}
@@ -63,7 +64,7 @@ shared-slice-read-t21 c = search needs
 
 returns : tie.Need-returns
 returns c =
-    let e : 7808 + c .before .before .before .before .before .before .before .before .args .i * 5 + 2 + 1 ≡ 7808 + c .before .before .before .before .before .before .before .before .args .i * 5 + 3 = omega arith in
+    let e : demandsAt + c .before .before .before .before .before .before .before .before .args .i * demandsWidth + demandName + nameLength ≡ demandsAt + c .before .before .before .before .before .before .before .before .args .i * demandsWidth + (demandName + nameLength) = omega arith in
     λ m g. rw (c .before .before .before .before .before .field-at .ensures, e, c .before .before .before .found-from .ensures) (demand-is g (c .before .before .before .before .before .before .before .before .args .i) (c .before .before .before .before .before .before .before .before .pre .0))
 
 pub demand-row-spec : {M : Type 1} → statement M

@@ -2,22 +2,24 @@ use denote.Ref.{now}
 use mathlib.Core.Path.{sym, ap, _∙_}
 use lib.ListN.{length}
 use Rattle.tables.proofs.ClearLaws.{zero-number}
-use Rattle.storedseries.specs.Back.{noMultiplier, multiplierBack}
-use Rattle.codes.proofs.RoomLaws.{rooms-are}
+use Rattle.storedseries.specs.Back.{multiplierBack}
+use Rattle.scope.specs.Records.{noMultiplier}
+use Rattle.tables.proofs.RoomLaws.{rooms-are}
 use Rattle.stored.proofs.PastLaws.{past-both}
+use Rattle.scope.specs.Sections.{roomMultipliers}
 use borrow.Author.Needs.{needs}
 use Rattle.storedseries.proofs.multiplier_at.Statement.{statement}
 use Rattle.storedseries.proofs.multiplier_at.Tie as tie
 use Rattle.storedseries.proofs.multiplier_at.Reads as reads
 use Rattle.storedseries.proofs.multiplier_at.Lts as lts
-use Rattle.codes.proofs.have_room.Reads as have-room-reads
+use Rattle.tables.proofs.have_room.Reads as have-room-reads
 use Rattle.storedseries.proofs.multiplier_row.Reads as multiplier-row-reads
 
 have-room-requires : tie.Need-have-room-requires
 have-room-requires c κs = search needs
 
 multiplier-row-requires : tie.Need-multiplier-row-requires
-multiplier-row-requires c κs = rooms-are (length (now (c .before .before .before .before .args .words))) 2048 (c .before .before .before .before .args .i) (length (now (c .before .before .before .before .args .numbers))) (sym (c .before .have-room .ensures) ∙ c .if1 .taken)
+multiplier-row-requires c κs = rooms-are (length (now (c .before .before .before .before .args .words))) roomMultipliers (c .before .before .before .before .args .i) (length (now (c .before .before .before .before .args .numbers))) (sym (c .before .have-room .ensures) ∙ c .if1 .taken)
 
 returns : tie.Need-returns
 returns c = search needs

@@ -3,21 +3,22 @@ use mathlib.Core.Path.{sym, ap, _∙_}
 use lib.ListN.{length}
 use Rattle.scope.specs.Records.{noName}
 use Rattle.storedseries.specs.Back.{patternBack}
-use Rattle.codes.proofs.RoomLaws.{room-is}
+use Rattle.tables.proofs.RoomLaws.{room-is}
 use Rattle.stored.proofs.PastLaws.{past-words}
+use Rattle.scope.specs.Sections.{roomPatterns}
 use borrow.Author.Needs.{needs}
 use Rattle.storedseries.proofs.pattern_at.Statement.{statement}
 use Rattle.storedseries.proofs.pattern_at.Tie as tie
 use Rattle.storedseries.proofs.pattern_at.Reads as reads
 use Rattle.storedseries.proofs.pattern_at.Lts as lts
-use Rattle.codes.proofs.has_room.Reads as has-room-reads
+use Rattle.tables.proofs.has_room.Reads as has-room-reads
 use Rattle.storedseries.proofs.pattern_row.Reads as pattern-row-reads
 
 has-room-requires : tie.Need-has-room-requires
 has-room-requires c κs = search needs
 
 pattern-row-requires : tie.Need-pattern-row-requires
-pattern-row-requires c κs = room-is (length (now (c .before .before .before .args .words))) 64 (c .before .before .before .args .i) (sym (c .before .has-room .ensures) ∙ c .if1 .taken)
+pattern-row-requires c κs = room-is (length (now (c .before .before .before .args .words))) roomPatterns (c .before .before .before .args .i) (sym (c .before .has-room .ensures) ∙ c .if1 .taken)
 
 returns : tie.Need-returns
 returns c = search needs

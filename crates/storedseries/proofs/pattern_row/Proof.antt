@@ -1,4 +1,5 @@
 use Prim.Native.Nat.{_+_, _*_}
+use Rattle.scope.specs.Layout.{patternsAt, patternsWidth}
 use denote.Ref.{now}
 use mathlib.Core.Path.{_∙_}
 use Rattle.stored.proofs.BackLaws.{span-first}
@@ -20,7 +21,7 @@ span-at-requires : tie.Need-span-at-requires
 span-at-requires c κs = search needs
 
 returns : tie.Need-returns
-returns c = λ m f g. rw (c .span-at .ensures ∙ span-first (now (c .before .before .args .words)) (5568 + c .before .before .args .i * 3)) (pattern-is g (c .before .before .args .i) (c .before .before .pre .0))
+returns c = λ m f g. rw (c .span-at .ensures ∙ span-first (now (c .before .before .args .words)) (patternsAt + c .before .before .args .i * patternsWidth)) (pattern-is g (c .before .before .args .i) (c .before .before .pre .0))
 
 pub pattern-row-spec : {M : Type 1} → statement M
 pattern-row-spec = tie.close (tie.spec mul-span-at add-span-at span-at-requires returns)

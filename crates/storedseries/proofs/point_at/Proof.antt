@@ -2,22 +2,24 @@ use denote.Ref.{now}
 use mathlib.Core.Path.{sym, ap, _∙_}
 use lib.ListN.{length}
 use Rattle.tables.proofs.ClearLaws.{zero-number}
-use Rattle.storedseries.specs.Back.{noPoint, pointBack}
-use Rattle.codes.proofs.RoomLaws.{rooms-are}
+use Rattle.storedseries.specs.Back.{pointBack}
+use Rattle.scope.specs.Records.{noPoint}
+use Rattle.tables.proofs.RoomLaws.{rooms-are}
 use Rattle.stored.proofs.PastLaws.{past-both}
+use Rattle.scope.specs.Sections.{roomPoints}
 use borrow.Author.Needs.{needs}
 use Rattle.storedseries.proofs.point_at.Statement.{statement}
 use Rattle.storedseries.proofs.point_at.Tie as tie
 use Rattle.storedseries.proofs.point_at.Reads as reads
 use Rattle.storedseries.proofs.point_at.Lts as lts
-use Rattle.codes.proofs.have_room.Reads as have-room-reads
+use Rattle.tables.proofs.have_room.Reads as have-room-reads
 use Rattle.storedseries.proofs.point_row.Reads as point-row-reads
 
 have-room-requires : tie.Need-have-room-requires
 have-room-requires c κs = search needs
 
 point-row-requires : tie.Need-point-row-requires
-point-row-requires c κs = rooms-are (length (now (c .before .before .before .before .args .words))) 1024 (c .before .before .before .before .args .i) (length (now (c .before .before .before .before .args .numbers))) (sym (c .before .have-room .ensures) ∙ c .if1 .taken)
+point-row-requires c κs = rooms-are (length (now (c .before .before .before .before .args .words))) roomPoints (c .before .before .before .before .args .i) (length (now (c .before .before .before .before .args .numbers))) (sym (c .before .have-room .ensures) ∙ c .if1 .taken)
 
 returns : tie.Need-returns
 returns c = search needs

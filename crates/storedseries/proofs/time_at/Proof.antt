@@ -4,21 +4,22 @@ use lib.ListN.{length}
 use native.Mathlib.Omega.{arith}
 use mathlib.Core.Option.{none}
 use Rattle.codes.specs.Codes.{amountOf}
-use Rattle.codes.proofs.RoomLaws.{room-is}
+use Rattle.tables.proofs.RoomLaws.{room-is}
 use Rattle.stored.proofs.PastLaws.{past-words}
+use Rattle.scope.specs.Layout.{roomTimes}
 use borrow.Author.Needs.{needs}
 use Rattle.storedseries.proofs.time_at.Statement.{statement}
 use Rattle.storedseries.proofs.time_at.Tie as tie
 use Rattle.storedseries.proofs.time_at.Reads as reads
 use Rattle.storedseries.proofs.time_at.Lts as lts
-use Rattle.codes.proofs.has_room.Reads as has-room-reads
+use Rattle.tables.proofs.has_room.Reads as has-room-reads
 use Rattle.storedseries.proofs.time_row.Reads as time-row-reads
 
 has-room-requires : tie.Need-has-room-requires
 has-room-requires c κs = search needs
 
 time-row-requires : tie.Need-time-row-requires
-time-row-requires c κs = room-is (length (now (c .before .before .before .args .words))) 6 (c .before .before .before .args .i) (sym (c .before .has-room .ensures) ∙ c .if1 .taken)
+time-row-requires c κs = room-is (length (now (c .before .before .before .args .words))) roomTimes (c .before .before .before .args .i) (sym (c .before .has-room .ensures) ∙ c .if1 .taken)
 
 returns : tie.Need-returns
 returns c = search needs
