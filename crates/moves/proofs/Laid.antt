@@ -23,13 +23,13 @@ use Rattle.scope.specs.declared.TimeOption.the-variants.{Duration, HydraulicTim
 use Rattle.scope.specs.Spelling.{wordIs, wordRule, wordIf, wordAnd, wordOr, wordThen, wordElse, wordPriority}
 use Rattle.scope.specs.Sections.{roomText, roomNodes, roomDemands, roomLinks, roomCurves, roomPoints, roomPatterns, roomRules, roomClauses}
 use Rattle.scope.specs.Records as R
-use Rattle.scope.specs.Records.{Network, noNetwork, Node, NodeKind, junction, reservoir, tank, LinkKind, pump, Rule, Clause, condition, action, Action, noNode, nodeIds, linkIds, ruleIds, lookup}
-use Rattle.scope.specs.Values.{Read, good, bad, onRead, Took, took, refused, onTook, onFound, nameFrom, optionalFrom, numberFrom, countFrom}
-use Rattle.scope.specs.Nodes.{junctionOf, addJunction, junctionStep, addNode, reservoirOf, reservoirStep, tankOf, tankStep, onJunction, setEmitter, emitterStep, setPlace, coordinatesStep}
-use Rattle.scope.specs.Links.{Ends, endsOf, addLink, LinkFields, storeLink, pipeOf, pipeStep, noPump, pumpFrom, pumpStep, valveOf, valveStep}
-use Rattle.scope.specs.Series.{lastX, falls, addPoint, curveStep, multipliersOf, fitting, addPattern, patternStep, ownFrom, addDemand, setDemand, demandStep, resolved}
+use Rattle.scope.specs.Records.{Network, noNetwork, Node, NodeKind, junction, reservoir, tank, LinkKind, pump, Rule, Clause, condition, action, Action, noNode, nodeIds, linkIds, ruleIds, lookup, noLink}
+use Rattle.scope.specs.Values.{Read, good, bad, onRead, Took, took, refused, onTook, onFound, nameFrom, countFrom, pairOf}
+use Rattle.scope.specs.Nodes.{junctionOf, addJunction, junctionStep, addNode, reservoirOf, reservoirStep, tankOf, tankStep, onJunction, emitterOf, setEmitter, emitterStep, setPlace, coordinatesStep}
+use Rattle.scope.specs.Links.{newLink, Ends, endsOf, addLink, LinkFields, storeLink, pipeOf, pipeStep, noPump, pumpFrom, pumpStep, valveOf, valveStep}
+use Rattle.scope.specs.Series.{lastX, falls, addPoint, curveStep, patternOf, fitting, addPattern, patternStep, demandOf, ownFrom, addDemand, setDemand, demandStep, resolved}
 use Rattle.scope.specs.Times.{setTime, timesOf, timesStep}
-use Rattle.scope.specs.Rules.{conditionOf, kindFits, deedOf, noLink, actionOf, Draft, noDraft, conditioned, acted, anded, lineOf, isCondition, isAction, some?, addRule, named, judged, groupStep}
+use Rattle.scope.specs.Rules.{conditionOf, kindFits, deedOf, actionOf, Draft, noDraft, conditioned, acted, anded, lineOf, isCondition, isAction, some?, addRule, named, judged, groupStep}
 use Rattle.scope.specs.Rules as G
 use Rattle.scope.specs.Lines.{sectionFields, ruleFields, verdict, stepOf, inp}
 use Rattle.scope.specs.Reading.{atStart, strictOf, surveyed, networkIn, allLow, strictNetwork, surveyNetwork}
@@ -132,46 +132,36 @@ tank-step fs m w = from-read (tankOf fs) (λ n. add-node n m w)
 emitter-step : (fs : List Name) (m : Network) → Laid m → Fine Laid (emitterStep fs m)
 unfolding emitterStep setEmitter
 emitter-step fs m w =
-    from-took (nameFrom fs) (λ id fs.
-    from-took (numberFrom fs) (λ x fs.
-    from-found (lookup (nodeIds m) (id .letters)) (λ i e. from-junction (getD (m .nodes) i noNode .kind) (λ j. goodly w) badly) badly))
+    from-read (emitterOf fs) (λ f.
+    from-found (lookup (nodeIds m) (f .id .letters)) (λ i e. from-junction (getD (m .nodes) i noNode .kind) (λ j. goodly w) badly) badly)
 
 coordinates-step : (fs : List Name) (m : Network) → Laid m → Fine Laid (coordinatesStep fs m)
 unfolding coordinatesStep setPlace
-coordinates-step fs m w =
-    from-took (nameFrom fs) (λ id fs.
-    from-took (numberFrom fs) (λ x fs.
-    from-took (numberFrom fs) (λ y fs.
-    from-found (lookup (nodeIds m) (id .letters)) (λ i e. goodly w) badly)))
+coordinates-step fs m w = from-read (pairOf fs) (λ p. from-found (lookup (nodeIds m) (p .id .letters)) (λ i e. goodly w) badly)
 
 curve-step : (fs : List Name) (m : Network) → Laid m → Fine Laid (curveStep fs m)
 unfolding curveStep addPoint
 curve-step fs m w =
-    from-took (nameFrom fs) (λ id fs.
-    from-took (numberFrom fs) (λ x fs.
-    from-took (numberFrom fs) (λ y fs.
-    from-found (lookup (m .curves) (id .letters))
-    (λ i e. from-if (falls x (lastX i (m .points))) badly (from-if (ltb (length (m .points)) roomPoints) (goodly w) badly))
-    (from-if (ltb (length (m .curves)) roomCurves && ltb (length (m .points)) roomPoints) (goodly w) badly))))
+    from-read (pairOf fs) (λ p.
+    from-found (lookup (m .curves) (p .id .letters))
+    (λ i e. from-if (falls (p .x) (lastX i (m .points))) badly (from-if (ltb (length (m .points)) roomPoints) (goodly w) badly))
+    (from-if (ltb (length (m .curves)) roomCurves && ltb (length (m .points)) roomPoints) (goodly w) badly))
 
 pattern-step : (fs : List Name) (m : Network) → Laid m → Fine Laid (patternStep fs m)
 unfolding patternStep addPattern
 pattern-step fs m w =
-    from-took (nameFrom fs) (λ id fs.
-    from-read (multipliersOf fs) (λ xs.
-    from-found (lookup (m .patterns) (id .letters)) (λ i e. from-if (fitting m xs) (goodly w) badly)
-    (from-if (ltb (length (m .patterns)) roomPatterns && fitting m xs) (goodly w) badly)))
+    from-read (patternOf fs) (λ p.
+    from-found (lookup (m .patterns) (p .id .letters)) (λ i e. from-if (fitting m (p .values)) (goodly w) badly)
+    (from-if (ltb (length (m .patterns)) roomPatterns && fitting m (p .values)) (goodly w) badly))
 
 demand-step : (fs : List Name) (m : Network) → Laid m → Fine Laid (demandStep fs m)
 unfolding demandStep setDemand addDemand
 demand-step fs m w =
-    from-took (nameFrom fs) (λ id fs.
-    from-took (numberFrom fs) (λ x fs.
-    from-took (optionalFrom fs) (λ pattern fs.
-    from-found (lookup (nodeIds m) (id .letters)) (λ i e.
+    from-read (demandOf fs) (λ d.
+    from-found (lookup (nodeIds m) (d .id .letters)) (λ i e.
     from-junction (getD (m .nodes) i noNode .kind) (λ j.
     from-found (ownFrom 0 i (m .demands)) (λ k e. goodly w)
-    (from-if (ltb (length (m .demands)) roomDemands) (goodly w) badly)) badly) badly)))
+    (from-if (ltb (length (m .demands)) roomDemands) (goodly w) badly)) badly) badly)
 
 time-set : (o : TimeOption) (n : ℕ) (m : Network) → Laid m → Laid (setTime o n m)
 time-set Duration n m w = w
@@ -191,7 +181,7 @@ add-link : (id : Name) (e : Ends) (k : LinkKind) (m : Network) → Laid m → Fi
 unfolding addLink
 add-link id e k m w =
     from-found (lookup (linkIds m) (id .letters)) (λ i x. badly)
-    (from-if (ltb (length (m .links)) roomLinks) (goodly (link-more (omega (arith, length-append (m .links) (record { id = id; start = e .start; end = e .end; kind = k } ∷ []))) w)) badly)
+    (from-if (ltb (length (m .links)) roomLinks) (goodly (link-more (omega (arith, length-append (m .links) (newLink id e k ∷ []))) w)) badly)
 
 store-link : (l : LinkFields) (m : Network) → Laid m → Fine Laid (storeLink l m)
 unfolding storeLink

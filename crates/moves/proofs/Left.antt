@@ -6,7 +6,8 @@ use lib.ListN.{length, drop}
 use lib.Seq.{drop-at}
 use lib.Ieee.{Float}
 use Rattle.scope.specs.Records.{Network, countsOf}
-use Rattle.scope.specs.Tables.{recordWords, roomWords, tallyWords, blocks, wordBlocks, wordsOf}
+use Rattle.scope.specs.Tables.{tallyWords, blocks, wordBlocks, wordsOf}
+use Rattle.scope.specs.Layout.{recordWords, roomWords}
 use Rattle.scope.specs.Reading.{wordsHolding}
 use Rattle.tables.proofs.EmptyLaws.{words-long}
 use Rattle.stored.specs.Back.{Stands}

@@ -1,5 +1,5 @@
 -- The loop's count is the definition's. Assumes nothing.
-use Prim.Native.Nat.{ℕ, suc, _+_, _-_, _≤_, _<_}
+use Prim.Native.Nat.{ℕ, suc, _+_, _-_, _*_, _≤_, _<_}
 use native.Mathlib.Omega.{arith}
 use native.Mathlib.Numerals.{add-one}
 use mathlib.Core.Path.{_≡_, refl, sym, ap, _∙_}
@@ -10,12 +10,12 @@ use lib.ListN.{length, getD, take, drop, length-drop}
 use lib.Dec.{ltb}
 use lib.Seq.{take-suc, take-all, getD-drop}
 use Rattle.decimals.proofs.Whole.{le-or-lt}
-use Rattle.scope.specs.Records.{Network, Clause, condition, action, Action}
+use Rattle.scope.specs.Records.{Network, Clause, condition, action, Action, noRule, noClause}
+use Rattle.scope.specs.Sections.{roomClauses}
 use Rattle.scope.specs.declared.LinkStatus.the-variants.{Open, Closed, Active}
 use Rattle.scope.specs.declared.Value.{Value}
 use Rattle.scope.specs.declared.Value.the-variants.{Number, Status}
-use Rattle.tables.specs.Holding.{noRule}
-use Rattle.stored.specs.Back.{clauseBack, ruleBack, noClause}
+use Rattle.stored.specs.Back.{clauseBack, ruleBack}
 use Rattle.stored.specs.declared.Rule as ruleOut
 use Rattle.stored.specs.declared.Clause as clauseOut
 use Rattle.stored.specs.declared.Clause.the-variants as clauseIs
@@ -122,10 +122,10 @@ larger-below a b n p q = either (ltb a b)
     either true = q
     either false = p
 
-pub made-few : (then otherwise : Moves) → Few 512 then → Few 512 otherwise → two then otherwise ≤ 1024
-made-few then otherwise p q = larger-below (then .closes + otherwise .closes) (then .opens + otherwise .opens) 1024 (omega arith) (omega arith)
+pub made-few : (then otherwise : Moves) → Few roomClauses then → Few roomClauses otherwise → two then otherwise ≤ 2 * roomClauses
+made-few then otherwise p q = larger-below (then .closes + otherwise .closes) (then .opens + otherwise .opens) (2 * roomClauses) (omega arith) (omega arith)
 
-pub made-is : (then otherwise : Moves) → Few 512 then → Few 512 otherwise → {r : ℕ} → r ≡ two then otherwise → ((then .closes + otherwise .closes) + r ≤ 2048) × ((then .closes + otherwise .closes) + r ≡ made then otherwise)
+pub made-is : (then otherwise : Moves) → Few roomClauses then → Few roomClauses otherwise → {r : ℕ} → r ≡ two then otherwise → ((then .closes + otherwise .closes) + r ≤ 4 * roomClauses) × ((then .closes + otherwise .closes) + r ≡ made then otherwise)
 made-is then otherwise p q e = (omega (arith, made-few then otherwise p q, e), ap (λ (x : ℕ). (then .closes + otherwise .closes) + x) e)
 
 pub made-none : (m : Network) → 0 ≡ madeBelow m 0

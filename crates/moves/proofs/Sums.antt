@@ -11,10 +11,9 @@ use lib.Seq.{take-add, take-length}
 use borrow.Author.Tests.{eq-eqb, ne-eqb}
 use Rattle.decimals.proofs.Whole.{le-or-lt}
 use Rattle.lines.specs.Text.{Each, nothing, each}
-use Rattle.scope.specs.Records.{Network, Rule, Clause, condition, action, Action}
+use Rattle.scope.specs.Records.{Network, Rule, Clause, condition, action, Action, noRule}
 use Rattle.scope.specs.declared.Value.{Value}
 use Rattle.scope.specs.Reading.{strictNetwork, surveyNetwork}
-use Rattle.tables.specs.Holding.{noRule}
 use Rattle.actions.specs.declared.Which.{Which}
 use Rattle.actions.specs.declared.Which.the-variants.{Any, One}
 use Rattle.actions.specs.Steps.{isBranch}

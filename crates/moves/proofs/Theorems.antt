@@ -5,11 +5,10 @@ use mathlib.Core.Path.{_≡_, refl}
 use mathlib.Core.Bool.{Bool, true, false, _&&_, not}
 use mathlib.Core.List.{List, [], _∷_}
 use lib.ListN.{getD}
-use Rattle.scope.specs.Records.{Network, Clause, condition, action, Action}
+use Rattle.scope.specs.Records.{Network, Clause, condition, action, Action, noRule}
 use Rattle.scope.specs.declared.LinkStatus.the-variants.{Open, Closed, Active}
 use Rattle.scope.specs.declared.Value.{Value}
 use Rattle.scope.specs.declared.Value.the-variants.{Number, Status}
-use Rattle.tables.specs.Holding.{noRule}
 use Rattle.actions.specs.declared.Which.{Which}
 use Rattle.actions.specs.declared.Which.the-variants.{Any, One}
 use Rattle.actions.specs.declared.Moves.{Moves}

@@ -6,12 +6,12 @@ use mathlib.Core.List.{List, [], _∷_, _++_}
 use lib.ListN.{length, getD, take, drop}
 use lib.Dec.{ltb}
 use lib.Ieee.{Float}
-use Rattle.scope.specs.Records.{Network, Rule, Clause, condition, action, Action, countsOf}
-use Rattle.scope.specs.Tables.{recordWords, tallyWords}
+use Rattle.scope.specs.Records.{Network, Rule, Clause, condition, action, Action, countsOf, noRule}
+use Rattle.scope.specs.Tables.{tallyWords}
+use Rattle.scope.specs.Layout.{recordWords}
 use Rattle.scope.specs.declared.LinkStatus.the-variants.{Open, Closed, Active}
 use Rattle.scope.specs.declared.Value.{Value}
 use Rattle.scope.specs.declared.Value.the-variants.{Number, Status}
-use Rattle.tables.specs.Holding.{noRule}
 use Rattle.stored.specs.Back.{Stands}
 use Rattle.actions.specs.declared.Which.{Which}
 use Rattle.actions.specs.declared.Which.the-variants.{Any, One}

@@ -1,20 +1,16 @@
 // How often the stored rules close, open, activate and set links: of a rule, of a link, of all rules. The crew sheet stands on these counts.
 ghost use mathlib.Core.Path.{_≡_};
 ghost use mathlib.Core.List.{List};
-ghost use Prim.Native.Nat.{_-_, _≤_};
+ghost use Prim.Native.Nat.{_-_, _*_, _≤_};
 ghost use lib.Ieee.{Float};
 ghost use lib.ListN.{length, take, drop};
 ghost use Rattle.scope.specs.Records.{Network};
+ghost use Rattle.scope.specs.Sections.{roomLinks, roomClauses};
 ghost use Rattle.stored.specs.Back.{Stands};
 ghost use Rattle.actions.specs.Steps.{Few};
 ghost use Rattle.moves.specs.Moves.{Tallied, chosen, movesOf, larger, ruleMoves, linkMoves, allMoves, made, madeAt, madeInAll};
 use actions::Moves;
 use actions::Which;
-
-// At most so many of each are stored.
-const ROOM_CLAUSES: usize = 512;
-
-const ROOM_LINKS: usize = 256;
 
 // ---- a range of clauses
 
@@ -27,8 +23,8 @@ fn moves_between(
     which: Which,
     otherwise: bool,
 ) -> Moves
-    requires { ⌜ end ≤ 512 ⌝ }
-    ensures { λ r. ⌜ Few 512 r ⌝ }
+    requires { ⌜ end ≤ roomClauses ⌝ }
+    ensures { λ r. ⌜ Few roomClauses r ⌝ }
     ensures { λ r. ⌜ ((m : Network) → Stands m (now (words .entry)) (now (numbers .entry)) → end ≤ length (m .clauses) → r ≡ movesOf (chosen which otherwise) (take (end - first) (drop first (m .clauses)))) ⌝ }
 {
     let mut n = Moves {
@@ -54,50 +50,37 @@ fn least(a: usize, b: usize) -> usize
 
 // How many clauses there are.
 fn clause_count(words: &[u64]) -> usize
-    ensures { λ r. ⌜ r ≤ 512 ⌝ }
+    ensures { λ r. ⌜ r ≤ roomClauses ⌝ }
     ensures { λ r. ⌜ ((m : Network) (f : List Float) → Tallied m (now (words .entry)) f → r ≡ length (m .clauses)) ⌝ }
 {
     let counts = storedcounts::counts_at(words);
-    least(counts.clauses, ROOM_CLAUSES)
+    least(counts.clauses, tables::CLAUSES_MOST)
 }
 
 // How many links there are.
 fn link_count(words: &[u64]) -> usize
-    ensures { λ r. ⌜ r ≤ 256 ⌝ }
+    ensures { λ r. ⌜ r ≤ roomLinks ⌝ }
     ensures { λ r. ⌜ ((m : Network) (f : List Float) → Tallied m (now (words .entry)) f → r ≡ length (m .links)) ⌝ }
 {
     let counts = storedcounts::counts_at(words);
-    least(counts.links, ROOM_LINKS)
+    least(counts.links, tables::LINKS_MOST)
 }
 
 // ---- of a rule, of a link, of all rules
 
-// Where `count` clauses from `first` on end, if there are `all`.
-fn end_of(first: usize, count: usize, all: usize) -> usize
-    ensures { λ r. ⌜ (r ≤ all) × (all - first ≤ count → r ≡ all) × (count ≤ all - first → r - first ≡ count) ⌝ }
-{
-    if all <= first {
-        return all;
-    }
-    if all - first <= count {
-        return all;
-    }
-    first + count
-}
-
 // The moves of rule number i, under THEN or, where `otherwise`, under ELSE.
 pub fn rule_moves(words: &[u64], numbers: &[f64], i: usize, otherwise: bool) -> Moves
-    ensures { λ r. ⌜ Few 512 r ⌝ }
+    ensures { λ r. ⌜ Few roomClauses r ⌝ }
     ensures { λ r. ⌜ ((m : Network) → Tallied m (now (words .entry)) (now (numbers .entry)) → r ≡ ruleMoves m i otherwise) ⌝ }
 {
     let rule = stored::rule_at(words, i);
-    let end = end_of(rule.first, rule.count, clause_count(words));
+    let end = parts::end_of(rule.first, rule.count, clause_count(words));
     moves_between(words, numbers, rule.first, end, Which::Any, otherwise)
 }
 
 // The moves of link number i under all rules.
 pub fn link_moves(words: &[u64], numbers: &[f64], i: usize, otherwise: bool) -> Moves
-    ensures { λ r. ⌜ Few 512 r ⌝ }
+    ensures { λ r. ⌜ Few roomClauses r ⌝ }
     ensures { λ r. ⌜ ((m : Network) → Tallied m (now (words .entry)) (now (numbers .entry)) → r ≡ linkMoves m i otherwise) ⌝ }
 {
     moves_between(
@@ -112,7 +95,7 @@ pub fn link_moves(words: &[u64], numbers: &[f64], i: usize, otherwise: bool) -> 
 
 // The moves of all rules.
 pub fn all_moves(words: &[u64], numbers: &[f64], otherwise: bool) -> Moves
-    ensures { λ r. ⌜ Few 512 r ⌝ }
+    ensures { λ r. ⌜ Few roomClauses r ⌝ }
     ensures { λ r. ⌜ ((m : Network) → Tallied m (now (words .entry)) (now (numbers .entry)) → r ≡ allMoves m otherwise) ⌝ }
 {
     moves_between(
@@ -134,8 +117,8 @@ fn larger_of(a: usize, b: usize) -> usize
 }
 
 fn made_by(then: Moves, otherwise: Moves) -> usize
-    requires { ⌜ Few 512 then × Few 512 otherwise ⌝ }
-    ensures { λ r. ⌜ r ≤ 2048 ⌝ }
+    requires { ⌜ Few roomClauses then × Few roomClauses otherwise ⌝ }
+    ensures { λ r. ⌜ r ≤ 4 * roomClauses ⌝ }
     ensures { λ r. ⌜ r ≡ made then otherwise ⌝ }
 {
     let closings = then.closes + otherwise.closes;
@@ -145,7 +128,7 @@ fn made_by(then: Moves, otherwise: Moves) -> usize
 
 // At link number i.
 pub fn link_made(words: &[u64], numbers: &[f64], i: usize) -> usize
-    ensures { λ r. ⌜ r ≤ 2048 ⌝ }
+    ensures { λ r. ⌜ r ≤ 4 * roomClauses ⌝ }
     ensures { λ r. ⌜ ((m : Network) → Tallied m (now (words .entry)) (now (numbers .entry)) → r ≡ madeAt m i) ⌝ }
 {
     let then = link_moves(words, numbers, i, false);

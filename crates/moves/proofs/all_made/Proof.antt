@@ -3,6 +3,7 @@ use native.Mathlib.Omega.{arith}
 use mathlib.Core.Path.{_≡_, _∙_}
 use denote.Ref.{now}
 use borrow.Author.Needs.{needs}
+use Rattle.scope.specs.Sections.{roomClauses}
 use Rattle.scope.specs.Records.{Network}
 use Rattle.moves.specs.Moves.{Tallied, madeBelow}
 use Rattle.moves.proofs.MovesLaws.{made-none, made-next, made-all}
@@ -15,7 +16,7 @@ use Rattle.moves.proofs.link_made.Reads as link-made-reads
 
 abbrev Inv-loop : tie.InvT-loop
 Inv-loop words numbers all n₀ i₀ n i =
-    (i ≤ all) × (n ≤ 2048 * i) × ((m : Network) → Tallied m words numbers → n ≡ madeBelow m i)
+    (i ≤ all) × (n ≤ 4 * roomClauses * i) × ((m : Network) → Tallied m words numbers → n ≡ madeBelow m i)
 
 abbrev μ-loop : tie.MeasureT-loop
 μ-loop words numbers all n₀ i₀ n i =

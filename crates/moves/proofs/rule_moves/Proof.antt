@@ -9,7 +9,7 @@ use Rattle.moves.proofs.rule_moves.Tie as tie
 use Rattle.moves.proofs.rule_moves.Reads as reads
 use Rattle.moves.proofs.rule_moves.Lts as lts
 use Rattle.moves.proofs.clause_count.Reads as clause-count-reads
-use Rattle.moves.proofs.end_of.Reads as end-of-reads
+use Rattle.parts.proofs.end_of.Reads as end-of-reads
 use Rattle.moves.proofs.moves_between.Reads as moves-between-reads
 use Rattle.stored.proofs.rule_at.Reads as rule-at-reads
 
