@@ -13,11 +13,11 @@ use Rattle.scope.specs.declared.Found.the-variants.{At, Nowhere}
 use Rattle.scope.specs.declared.Target.{Target}
 use Rattle.scope.specs.declared.Value.{Value}
 use Rattle.scope.specs.declared.Operator.the-variants as operator
-use Rattle.scope.specs.declared.Reason.the-variants.{Missing, NotFound, Unknown}
-use Rattle.scope.specs.Records.{Network, Action, linkIds, lookup}
+use Rattle.scope.specs.declared.Reason.the-variants.{Missing, NotFound, UnknownWord}
+use Rattle.scope.specs.Records.{Network, Action, linkIds, lookup, noLink}
 use Rattle.scope.specs.Spelling.{wordRule, wordIf, wordAnd, wordOr, wordThen, wordElse, wordPriority, wordIs}
 use Rattle.scope.specs.Values.{Read, good, bad, onRead, Took, took, refused, onTook, onFound, nameFrom}
-use Rattle.scope.specs.Rules.{Aim, aimed, namedFrom, kindFits, noLink, actionOf, deedOf, Draft, ruled, conditioned, acted, anded, ranked, lineOf}
+use Rattle.scope.specs.Rules.{Aim, aimed, namedFrom, kindFits, actionOf, deedOf, Draft, ruled, conditioned, acted, anded, ranked, lineOf}
 use Rattle.clauses.specs.declared.Named.{Named}
 use Rattle.clauses.specs.declared.RuleWord.{RuleWord}
 use Rattle.clauses.specs.declared.RuleWord.the-variants as word
@@ -37,20 +37,20 @@ deed-out : (i : ℕ) (id : Name) (otherwise : Bool) (fs : List Name)
     (onTook (nameFrom fs) (λ v fs.
     onRead (deedOf (what .letters) v) (λ value.
     good (actionWith otherwise i id value))))
-    (bad Unknown)))
+    (bad UnknownWord)))
     ≡ onRead (deedFrom fs) (λ v. good (actionWith otherwise i id v))
 unfolding deedFrom
 deed-out i id otherwise [] = refl
 deed-out i id otherwise (a ∷ []) = refl
 deed-out i id otherwise (a ∷ b ∷ []) = go (same (b .letters) wordIs)
   where
-    go : (t : Bool) → cond t (bad Missing) (bad Unknown) ≡ onRead (cond t (bad Missing) (bad Unknown)) (λ v. good (actionWith otherwise i id v))
+    go : (t : Bool) → cond t (bad Missing) (bad UnknownWord) ≡ onRead (cond t (bad Missing) (bad UnknownWord)) (λ v. good (actionWith otherwise i id v))
     go true = refl
     go false = refl
 deed-out i id otherwise (a ∷ b ∷ v ∷ fs) = go (same (b .letters) wordIs) (deedOf (a .letters) v)
   where
-    go : (t : Bool) (r : Read Value) → cond t (onRead r (λ value. good (actionWith otherwise i id value))) (bad Unknown)
-        ≡ onRead (cond t r (bad Unknown)) (λ value. good (actionWith otherwise i id value))
+    go : (t : Bool) (r : Read Value) → cond t (onRead r (λ value. good (actionWith otherwise i id value))) (bad UnknownWord)
+        ≡ onRead (cond t r (bad UnknownWord)) (λ value. good (actionWith otherwise i id value))
     go true r = refl
     go false r = refl
 
@@ -68,7 +68,7 @@ action-parts otherwise m (k ∷ id ∷ fs) = go (lookup (linkIds m) (id .letters
         (onTook (nameFrom fs) (λ v fs.
         onRead (deedOf (what .letters) v) (λ value.
         good (actionWith otherwise i id value))))
-        (bad Unknown)))) ≡ onRead r (λ fits. onRead (deedFrom fs) (λ v. good (actionWith otherwise i id v)))
+        (bad UnknownWord)))) ≡ onRead r (λ fits. onRead (deedFrom fs) (λ v. good (actionWith otherwise i id v)))
     on i (good u) = deed-out i id otherwise fs
     on i (bad why) = refl
 
@@ -80,7 +80,7 @@ action-parts otherwise m (k ∷ id ∷ fs) = go (lookup (linkIds m) (id .letters
         (onTook (nameFrom fs) (λ v fs.
         onRead (deedOf (what .letters) v) (λ value.
         good (actionWith otherwise i id value))))
-        (bad Unknown)))))
+        (bad UnknownWord)))))
         (bad NotFound) ≡ actionAt otherwise m (record { kind = k; id = id }) fs f
     go (At i) = on i (kindFits (k .letters) (getD (m .links) i noLink .kind))
     go Nowhere = refl
@@ -92,7 +92,7 @@ line-by m d w fs =
     go (same (w .letters) wordRule) (same (w .letters) wordIf) (same (w .letters) wordOr) (same (w .letters) wordThen) (same (w .letters) wordAnd) (same (w .letters) wordElse) (same (w .letters) wordPriority)
   where
     go : (a b c e f g h : Bool)
-        → cond a (ruled fs d) (cond b (conditioned operator.And fs d) (cond c (conditioned operator.Or fs d) (cond e (acted true (d .otherwise) false m fs d) (cond f (anded (d .acting) m fs d) (cond g (acted (d .acting) true true m fs d) (cond h (ranked fs d) (bad Unknown)))))))
+        → cond a (ruled fs d) (cond b (conditioned operator.And fs d) (cond c (conditioned operator.Or fs d) (cond e (acted true (d .otherwise) false m fs d) (cond f (anded (d .acting) m fs d) (cond g (acted (d .acting) true true m fs d) (cond h (ranked fs d) (bad UnknownWord)))))))
         ≡ lineBy (cond a word.Rule (cond b word.If (cond c word.Or (cond e word.Then (cond f word.And (cond g word.Else (cond h word.Priority word.Unknown))))))) m d fs
     go true b c e f g h = refl
     go false true c e f g h = refl

@@ -19,10 +19,10 @@ use Rattle.scope.specs.declared.Condition as C
 use Rattle.scope.specs.Spelling.{wordRule, wordIf, wordAnd, wordOr, wordThen, wordElse, wordPriority, wordIs}
 use Rattle.scope.specs.declared.Found.{Found}
 use Rattle.scope.specs.declared.Operator.the-variants as operator
-use Rattle.scope.specs.Records.{Network, Condition, Action}
+use Rattle.scope.specs.Records.{Network, Condition, Action, noLink}
 use Rattle.scope.specs.Values.{Read, good, bad, onRead, Took, took, refused, onTook, onFound, nameFrom}
 use Rattle.scope.specs.Rules as R
-use Rattle.scope.specs.Rules.{nodeTarget, tankTarget, linkTarget, comparisonOf, valueOf, deedOf, kindFits, noLink, Draft, ruled, conditioned, acted, anded, ranked}
+use Rattle.scope.specs.Rules.{nodeTarget, tankTarget, linkTarget, comparisonOf, valueOf, deedOf, kindFits, Draft, ruled, conditioned, acted, anded, ranked}
 use Rattle.clauses.specs.declared.AttributeRead.{AttributeRead}
 use Rattle.clauses.specs.declared.AttributeRead.the-variants as attribute
 use Rattle.clauses.specs.declared.Named.{Named}
@@ -112,7 +112,7 @@ deedFrom fs =
     onTook (nameFrom fs) (λ is fs.
     cond (same (is .letters) wordIs)
     (onTook (nameFrom fs) (λ v fs. deedOf (what .letters) v))
-    (bad reason.Unknown)))
+    (bad reason.UnknownWord)))
 
 abbrev pub actionWith : Bool → ℕ → Name → Value → Action
 actionWith otherwise i id v = record { link = i; name = id; value = v; otherwise = otherwise }
@@ -145,4 +145,4 @@ lineBy Then m d fs = acted true (d .otherwise) false m fs d
 lineBy And m d fs = anded (d .acting) m fs d
 lineBy Else m d fs = acted (d .acting) true true m fs d
 lineBy Priority m d fs = ranked fs d
-lineBy Unknown m d fs = bad reason.Unknown
+lineBy Unknown m d fs = bad reason.UnknownWord

@@ -38,7 +38,7 @@ fn system_target(w: &[u8]) -> AttributeRead
         return AttributeRead::Known(Target::System(SystemAttribute::Time));
     }
     if letters::equal(w, b"CLOCKTIME") {
-        return AttributeRead::Known(Target::System(SystemAttribute::ClockTime));
+        return AttributeRead::Known(Target::System(SystemAttribute::Clocktime));
     }
     AttributeRead::Unknown
 }
@@ -65,10 +65,10 @@ fn tank_target(w: &[u8]) -> AttributeRead
         return AttributeRead::Known(Target::Tank(TankAttribute::Level));
     }
     if letters::equal(w, b"FILLTIME") {
-        return AttributeRead::Known(Target::Tank(TankAttribute::FillTime));
+        return AttributeRead::Known(Target::Tank(TankAttribute::Filltime));
     }
     if letters::equal(w, b"DRAINTIME") {
-        return AttributeRead::Known(Target::Tank(TankAttribute::DrainTime));
+        return AttributeRead::Known(Target::Tank(TankAttribute::Draintime));
     }
     AttributeRead::Unknown
 }
@@ -133,7 +133,7 @@ fn system_from(l: &[u8], at: usize) -> TargetRead
             name: Field::Nothing,
             next: s.end,
         }),
-        AttributeRead::Unknown => TargetRead::Refused(Reason::Unknown),
+        AttributeRead::Unknown => TargetRead::Refused(Reason::UnknownWord),
     }
 }
 
@@ -157,7 +157,7 @@ fn named_from(l: &[u8], at: usize, kind: Named) -> TargetRead
             name: Field::Taken(id),
             next: s.end,
         }),
-        AttributeRead::Unknown => TargetRead::Refused(Reason::Unknown),
+        AttributeRead::Unknown => TargetRead::Refused(Reason::UnknownWord),
     }
 }
 
@@ -197,7 +197,7 @@ pub fn read_target(l: &[u8], at: usize) -> TargetRead
     if is_link_word(w) {
         return named_from(l, s.end, Named::Link);
     }
-    TargetRead::Refused(Reason::Unknown)
+    TargetRead::Refused(Reason::UnknownWord)
 }
 
 // ---- the value
@@ -209,7 +209,7 @@ fn is_time(t: Target) -> bool
         Target::System(a) => match a {
             SystemAttribute::Demand => false,
             SystemAttribute::Time => true,
-            SystemAttribute::ClockTime => true,
+            SystemAttribute::Clocktime => true,
         },
         Target::Node(_) => false,
         Target::Tank(_) => false,
@@ -259,7 +259,7 @@ fn condition_on(l: &[u8], aim: Aim, operator: Operator) -> ConditionRead
     };
     let word = values::read_comparison(fields::letters_of(l, s));
     let ComparisonRead::Known(comparison) = word else {
-        return ConditionRead::Refused(Reason::Unknown);
+        return ConditionRead::Refused(Reason::UnknownWord);
     };
     let target = aim.target;
     let name = aim.name;
@@ -347,7 +347,7 @@ pub fn kind_fits(w: &[u8], pipe: bool, pump: bool, valve: bool) -> KindRead
     if letters::equal(w, b"PUMP") {
         return of_kind(pump);
     }
-    KindRead::Refused(Reason::Unknown)
+    KindRead::Refused(Reason::UnknownWord)
 }
 
 // What stands after the link's id: STATUS or SETTING, IS, and the value.
@@ -369,7 +369,7 @@ pub fn read_deed(l: &[u8], at: usize) -> ValueRead
         };
         return values::deed(fields::letters_of(l, what), fields::letters_of(l, v));
     }
-    ValueRead::Refused(Reason::Unknown)
+    ValueRead::Refused(Reason::UnknownWord)
 }
 
 // ---- the first word of a rule's line

@@ -9,7 +9,7 @@ use lib.Dec.{eqb}
 use lib.Ieee.{Float}
 use Rattle.lines.specs.Reader.{step}
 use Rattle.lines.specs.Tables.{refilled}
-use Rattle.scope.specs.Sections.{roomLines}
+use Rattle.scope.specs.Sections.{roomLines, roomText}
 use Rattle.scope.specs.Records.{Network, noNetwork, countsOf}
 use Rattle.scope.specs.Series.{resolved}
 use Rattle.scope.specs.Lines.{inp}
@@ -36,7 +36,7 @@ pub record Along (b : Bool) (text : List ℕ) (nc nr : ℕ) (w : List ℕ) (f : 
   pub longC : length c ≡ nc
   pub longR : length r ≡ nr
 
-pub begin : (b : Bool) (text w : List ℕ) (f : List Float) (c r : List ℕ) (s : State) → s ≡ newState → length text ≤ 65536 → Holds text noNetwork (countsOf noNetwork) w f → (b ≡ true → Unmarked c r)
+pub begin : (b : Bool) (text w : List ℕ) (f : List Float) (c r : List ℕ) (s : State) → s ≡ newState → length text ≤ roomText → Holds text noNetwork (countsOf noNetwork) w f → (b ≡ true → Unmarked c r)
     → Along b text (length c) (length r) w f c r s
 begin b text w f c r s e h d u =
     record {

@@ -15,7 +15,7 @@ use Rattle.scope.specs.Series.{resolved}
 use Rattle.scope.specs.Lines.{inp}
 use Rattle.scope.specs.Reading.{atStart, says, told, strictOf, networkIn}
 use Rattle.tables.specs.Holding.{Holds}
-use Rattle.steps.specs.Held.{Model, Stands, Stepped, Goes, newState}
+use Rattle.steps.specs.Held.{Model, Carries, Stepped, Goes, newState}
 use Rattle.steps.specs.declared.State.{State}
 use Rattle.steps.specs.declared.Turn.{Turn}
 use Rattle.steps.proofs.StepLaws.{never}
@@ -26,10 +26,10 @@ use Rattle.going.specs.Over.{Done}
 -- ---- how far the loop has come
 pub record Gone (text : List ℕ) (s : State) (w : List ℕ) (f : List Float) : Type 0 where
   pub m : Model
-  pub stands : Stands text s w f m
+  pub stands : Carries text s w f m
   pub going : Going inp false Passed noNetwork text m (s .at) (s .line)
 
-pub start-stands : (text w : List ℕ) (f : List Float) (s : State) → s ≡ newState → Holds text noNetwork (countsOf noNetwork) w f → Stands text s w f atStart
+pub start-stands : (text w : List ℕ) (f : List Float) (s : State) → s ≡ newState → Holds text noNetwork (countsOf noNetwork) w f → Carries text s w f atStart
 start-stands text w f s e h = rw e (record { sec = refl; none = λ _. refl; group = never; recs = h; line = omega arith; here = omega arith })
 
 pub begin : (text w : List ℕ) (f : List Float) (s : State) → s ≡ newState → Holds text noNetwork (countsOf noNetwork) w f → Gone text s w f

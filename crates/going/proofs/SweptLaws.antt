@@ -19,7 +19,7 @@ use Rattle.scope.specs.Series.{resolved}
 use Rattle.scope.specs.Lines.{inp}
 use Rattle.scope.specs.Reading.{atStart, marksOf, surveyed, surveyOf}
 use Rattle.tables.specs.Holding.{Holds}
-use Rattle.steps.specs.Held.{Model, Stands, Stepped, Goes, newState}
+use Rattle.steps.specs.Held.{Model, Carries, Stepped, Goes, newState}
 use Rattle.steps.specs.declared.State.{State}
 use Rattle.steps.specs.declared.Turn.{Turn}
 use Rattle.marks.specs.Counted.{counted}
@@ -34,7 +34,7 @@ use Rattle.going.proofs.GoneLaws.{start-stands}
 pub record Swept (text : List ℕ) (nc nr : ℕ) (w : List ℕ) (f : List Float) (c r : List ℕ) (s : State) : Type 0 where
   pub m : Model
   pub swept : loops.Swept inp false Passed noNetwork text m nc nr c r (s .at) (s .line)
-  pub stands : Stands text s w f m
+  pub stands : Carries text s w f m
   pub longC : length c ≡ nc
   pub longR : length r ≡ nr
 

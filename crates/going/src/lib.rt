@@ -6,6 +6,7 @@ ghost use lib.ListN.{length, set};
 ghost use lib.Dec.{eqb};
 ghost use Rattle.lines.specs.Tables.{refilled};
 ghost use Rattle.scope.specs.Records.{noNetwork, countsOf};
+ghost use Rattle.scope.specs.Sections.{roomText};
 ghost use Rattle.tables.specs.Holding.{Holds};
 ghost use Rattle.marks.specs.Filled.{filled};
 ghost use Rattle.going.specs.Over.{Unmarked, Done, Overseen};
@@ -73,7 +74,7 @@ pub fn go_over(
     classes: &mut [u8],
     reasons: &mut [u8],
 ) -> Over
-    requires { ⌜ (length (now text) ≤ 65536) × Holds (now text) noNetwork (countsOf noNetwork) (now words) (now numbers) × (marking ≡ true → Unmarked (now classes) (now reasons)) ⌝ }
+    requires { ⌜ (length (now text) ≤ roomText) × Holds (now text) noNetwork (countsOf noNetwork) (now words) (now numbers) × (marking ≡ true → Unmarked (now classes) (now reasons)) ⌝ }
     ensures { λ r. ⌜ (marking ≡ false → Done (now (text .entry)) (now (words .exit)) (now (numbers .exit)) (r .reason) (r .piece) (r .counts))
         × (marking ≡ true → Overseen (now (text .entry)) (now (words .exit)) (now (numbers .exit)) (now (classes .exit)) (now (reasons .exit)) (r .lines) (r .counts)) ⌝ }
 {

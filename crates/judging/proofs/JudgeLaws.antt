@@ -9,11 +9,12 @@ use Rattle.fields.specs.Fields.{part, nameIn}
 use Rattle.fields.specs.declared.Span.{Span}
 use Rattle.fields.specs.declared.Field.{Field}
 use Rattle.fields.specs.declared.Field.the-variants.{Taken, Nothing}
-use Rattle.scope.specs.declared.Reason.the-variants.{Used, NoCondition, NoAction, NoId, Full}
+use Rattle.scope.specs.declared.Reason.the-variants.{Used, NoCondition, NoAction, NoId, NoRoom}
 use Rattle.scope.specs.declared.Found.the-variants.{At, Nowhere}
 use Rattle.scope.specs.Records.{Network, ruleIds, lookup}
 use Rattle.scope.specs.Values.{bad}
 use Rattle.scope.specs.Rules.{Draft, addRule, judged}
+use Rattle.scope.specs.Sections.{roomRules, roomClauses}
 use Rattle.clauses.specs.Clauses.{optIn, MayFit}
 use Rattle.judging.specs.declared.Sketch.{Sketch}
 use Rattle.judging.specs.Sketches.{Sketched, Fine}
@@ -43,18 +44,18 @@ module _ {text : List ℕ} {d : Draft} {q : Sketch} (k : Sketched text d q) (m :
         used e = is-added ∙ rw e
 
         module _ (free : lookup (ruleIds m) (part (id .at) (id .end) text) ≡ Nowhere) where
-          pub rules-full : 64 ≤ length (m .rules) → judged d m ≡ bad Full
+          pub rules-full : roomRules ≤ length (m .rules) → judged d m ≡ bad NoRoom
           unfolding addRule
-          rules-full h = is-added ∙ rw (free, le-ltb (length (m .rules)) 64 h)
+          rules-full h = is-added ∙ rw (free, le-ltb (length (m .rules)) roomRules h)
 
-          pub clauses-full : length (m .rules) < 64 → 512 < length (m .clauses) + length (d .clauses) → judged d m ≡ bad Full
+          pub clauses-full : length (m .rules) < roomRules → roomClauses < length (m .clauses) + length (d .clauses) → judged d m ≡ bad NoRoom
           unfolding addRule
-          clauses-full h h2 = is-added ∙ rw (free, lt-ltb (length (m .rules)) 64 h, lt-leb (length (m .clauses) + length (d .clauses)) 512 h2)
+          clauses-full h h2 = is-added ∙ rw (free, lt-ltb (length (m .rules)) roomRules h, lt-leb (length (m .clauses) + length (d .clauses)) roomClauses h2)
 
-          pub rule-fits : length (m .rules) < 64 → length (m .clauses) + length (d .clauses) ≤ 512 → Fine text d m (judged d m) id
+          pub rule-fits : length (m .rules) < roomRules → length (m .clauses) + length (d .clauses) ≤ roomClauses → Fine text d m (judged d m) id
           unfolding addRule
           rule-fits h h2 = record {
-            whole = is-added ∙ rw (free, lt-ltb (length (m .rules)) 64 h, le-leb (length (m .clauses) + length (d .clauses)) 512 h2);
+            whole = is-added ∙ rw (free, lt-ltb (length (m .rules)) roomRules h, le-leb (length (m .clauses) + length (d .clauses)) roomClauses h2);
             fits = subst (λ (f : Field). MayFit text f) ei (k .fit);
             rules = h;
             clauses = h2;

@@ -10,7 +10,7 @@ use Rattle.fields.specs.declared.Span.{Span}
 use Rattle.fields.specs.declared.Field.the-variants.{Taken}
 use Rattle.scope.specs.Records.{Condition, Action, Clause, condition, action}
 use Rattle.scope.specs.Rules.{Draft, isCondition, isAction, some?}
-use Rattle.rulelines.specs.Lines.{saidId, saidRank, saidCondition, saidAction, told}
+use Rattle.rulelines.specs.Lines.{saidId, saidRank, saidCondition, saidAction, withSaid}
 use Rattle.judging.specs.declared.Sketch.{Sketch}
 use Rattle.judging.specs.Sketches.{Sketched}
 
@@ -40,15 +40,15 @@ long-more cs c e = omega (arith, length-append cs (c ∷ []), e)
 
 -- ---- the sketch of a draft with one line more
 module _ {text : List ℕ} {d : Draft} {q : Sketch} (h : Sketched text d q) where
-  pub see-id : (s : Span) → Fits text s → Sketched text (told (saidId (nameIn text s)) d)
+  pub see-id : (s : Span) → Fits text s → Sketched text (withSaid (saidId (nameIn text s)) d)
       (record { id = Taken s; ranked = q .ranked; priority = q .priority; acting = q .acting; otherwise = q .otherwise; clauses = q .clauses; conditions = q .conditions; actions = q .actions })
   see-id s k = record { id = refl; fit = k; rank = h .rank; acting = h .acting; otherwise = h .otherwise; long = h .long; conditions = h .conditions; actions = h .actions }
 
-  pub see-rank : (n : ℕ) → Sketched text (told (saidRank n) d)
+  pub see-rank : (n : ℕ) → Sketched text (withSaid (saidRank n) d)
       (record { id = q .id; ranked = true; priority = n; acting = q .acting; otherwise = q .otherwise; clauses = q .clauses; conditions = q .conditions; actions = q .actions })
   see-rank n = record { id = h .id; fit = h .fit; rank = refl; acting = h .acting; otherwise = h .otherwise; long = h .long; conditions = h .conditions; actions = h .actions }
 
-  pub see-condition : (c : Condition) → Sketched text (told (saidCondition c) d)
+  pub see-condition : (c : Condition) → Sketched text (withSaid (saidCondition c) d)
       (record { id = q .id; ranked = q .ranked; priority = q .priority; acting = q .acting; otherwise = q .otherwise; clauses = q .clauses + 1; conditions = true; actions = q .actions })
   see-condition c = record {
     id = h .id;
@@ -61,7 +61,7 @@ module _ {text : List ℕ} {d : Draft} {q : Sketch} (h : Sketched text d q) wher
     actions = some-more isAction (d .clauses) (condition c) ∙ or-false (some? isAction (d .clauses)) ∙ h .actions;
   }
 
-  pub see-action : (acting otherwise : Bool) (a : Action) → Sketched text (told (saidAction acting otherwise a) d)
+  pub see-action : (acting otherwise : Bool) (a : Action) → Sketched text (withSaid (saidAction acting otherwise a) d)
       (record { id = q .id; ranked = q .ranked; priority = q .priority; acting = acting; otherwise = otherwise; clauses = q .clauses + 1; conditions = q .conditions; actions = true })
   see-action acting otherwise a = record {
     id = h .id;

@@ -10,6 +10,7 @@ use Rattle.fields.specs.declared.Span.{Span}
 use Rattle.scope.specs.Records.{Network}
 use Rattle.scope.specs.Values.{Read, good, bad}
 use Rattle.scope.specs.Rules.{Draft, isCondition, isAction, some?, withRule}
+use Rattle.scope.specs.Sections.{roomRules, roomClauses}
 use Rattle.clauses.specs.Clauses.{optIn, MayFit}
 use Rattle.judging.specs.declared.Sketch.{Sketch}
 use Rattle.judging.specs.declared.SketchRead.{SketchRead}
@@ -40,8 +41,8 @@ SketchAs text o (sketch.Refused why) = o ≡ bad why
 pub record Fine (text : List ℕ) (d : Draft) (m : Network) (o : Read Network) (id : Span) : Type 0 where
   pub whole : o ≡ good (withRule (nameIn text id) d m)
   pub fits : Fits text id
-  pub rules : length (m .rules) < 64
-  pub clauses : length (m .clauses) + length (d .clauses) ≤ 512
+  pub rules : length (m .rules) < roomRules
+  pub clauses : length (m .clauses) + length (d .clauses) ≤ roomClauses
 
 abbrev pub JudgedAs : List ℕ → Draft → Network → Read Network → Judged → Type 0
 JudgedAs text d m o (judge.Good id) = Fine text d m o id

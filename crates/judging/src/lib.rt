@@ -4,16 +4,18 @@ ghost use mathlib.Core.List.{List};
 ghost use Prim.Native.Nat.{ℕ, _+_, _≤_, _<_};
 ghost use lib.ListN.{length};
 ghost use Rattle.scope.specs.Records.{Network, Clause, withClauses};
+ghost use Rattle.scope.specs.Sections.{roomClauses};
 ghost use Rattle.scope.specs.Values.{good, onRead};
 ghost use Rattle.scope.specs.Rules.{Draft, noDraft, judged};
 ghost use Rattle.tables.specs.Holding.{Words};
-ghost use Rattle.rulelines.specs.Lines.{told, saidRead, LineFits};
+ghost use Rattle.rulelines.specs.Lines.{withSaid, saidRead, LineFits};
 ghost use Rattle.judging.specs.Sketches.{Sketched, SketchAs, JudgedAs};
 use fields::Field;
 use fields::Span;
 use rulelines::LineRead;
 use scope::Counts;
 use scope::Found;
+use scope::Kind;
 use scope::Reason;
 
 // ---- the lines
@@ -53,7 +55,7 @@ pub fn no_sketch() -> Sketch
 // The sketch with one line more.
 pub fn see(q: Sketch, read: LineRead) -> SketchRead
     requires { ⌜ q .clauses + 1 < 18446744073709551616 ⌝ }
-    ensures { λ r. ⌜ ((text : List ℕ) (d : Draft) → Sketched text d q → LineFits text read → SketchAs text (onRead (saidRead text read) (λ s. good (told s d))) r) ⌝ }
+    ensures { λ r. ⌜ ((text : List ℕ) (d : Draft) → Sketched text d q → LineFits text read → SketchAs text (onRead (saidRead text read) (λ s. good (withSaid s d))) r) ⌝ }
 {
     let id = q.id;
     match read {
@@ -110,7 +112,7 @@ pub enum Judged {
 
 // The group of that sketch: no condition, no action, no id, its id used, no room, in that order. Some of its clauses may stand in the words already.
 pub fn judge_group(text: &[u8], q: Sketch, words: &[u64], s: Counts) -> Judged
-    requires { ⌜ ((m : Network) × Words (now text) m (now words) × (s .rules ≡ length (m .rules)) × (s .clauses ≤ 512)) ⌝ }
+    requires { ⌜ ((m : Network) × Words (now text) m (now words) × (s .rules ≡ length (m .rules)) × (s .clauses ≤ roomClauses)) ⌝ }
     ensures { λ r. ⌜ ((m : Network) (cs : List Clause) (d : Draft) → Words (now (text .entry)) (withClauses cs m) (now (words .entry)) → s .rules ≡ length (m .rules) → s .clauses ≡ length (m .clauses) → Sketched (now (text .entry)) d q
         → JudgedAs (now (text .entry)) d m (judged d m) r) ⌝ }
 {
@@ -120,16 +122,22 @@ pub fn judge_group(text: &[u8], q: Sketch, words: &[u64], s: Counts) -> Judged
             let Field::Taken(id) = named else {
                 return Judged::Refused(Reason::NoId);
             };
-            let found = tables::find_rule(text, words, s.rules, fields::letters_of(text, id));
+            let found = tables::find_named(
+                text,
+                words,
+                Kind::Rules,
+                s.rules,
+                fields::letters_of(text, id),
+            );
             let Found::Nowhere = found else {
                 return Judged::Refused(Reason::Used);
             };
-            if s.rules < 64 {
-                if q.clauses <= 512 - s.clauses {
+            if s.rules < tables::RULES_MOST {
+                if q.clauses <= tables::CLAUSES_MOST - s.clauses {
                     return Judged::Good(id);
                 }
             }
-            return Judged::Refused(Reason::Full);
+            return Judged::Refused(Reason::NoRoom);
         }
         return Judged::Refused(Reason::NoAction);
     }

@@ -22,7 +22,7 @@ pub fn clear_bytes(bytes: &mut [u8])
 fn swap(b: u8, k: u8) -> u8
     ensures { λ r. ⌜ r ≡ swapped k b ⌝ }
 {
-    if b == steps::RULE_OPEN { k } else { b }
+    if b == codes::RULE_OPEN { k } else { b }
 }
 
 // The group that was open is of class k: from its first line to the one that closes it, 8 becomes k.
@@ -99,13 +99,13 @@ pub fn counts_of(classes: &[u8], lines: usize) -> Survey
     Survey {
         number: 0,
         lines,
-        blank: count(xs, steps::BLANK),
-        header: count(xs, steps::HEADER),
-        passed: count(xs, steps::PASSED),
-        taken: count(xs, steps::TAKEN),
-        refused: count(xs, steps::REFUSED),
-        ruletaken: count(xs, steps::RULE_TAKEN),
-        rulerefused: count(xs, steps::RULE_REFUSED),
-        ruleopen: count(xs, steps::RULE_OPEN),
+        blank: count(xs, codes::BLANK),
+        header: count(xs, codes::HEADER),
+        passed: count(xs, codes::PASSED),
+        taken: count(xs, codes::TAKEN),
+        refused: count(xs, codes::REFUSED),
+        ruletaken: count(xs, codes::RULE_TAKEN),
+        rulerefused: count(xs, codes::RULE_REFUSED),
+        ruleopen: count(xs, codes::RULE_OPEN),
     }
 }

@@ -10,7 +10,7 @@ use lib.Ieee.{Float}
 use Rattle.fields.specs.Fields.{Name, nameIn, part, Fits, optIn, MayFit}
 use Rattle.fields.specs.declared.Span.{Span}
 use Rattle.fields.specs.declared.Field.{Field}
-use Rattle.scope.specs.declared.Reason.the-variants.{Used, Full}
+use Rattle.scope.specs.declared.Reason.the-variants.{Used, NoRoom}
 use Rattle.scope.specs.declared.Found.the-variants.{At, Nowhere}
 use Rattle.scope.specs.declared.Counts.{Counts}
 use Rattle.scope.specs.declared.Tank as coded
@@ -18,7 +18,8 @@ use Rattle.scope.specs.Records.{Network, Node, NodeKind, reservoir, tank, zeroF
 use Rattle.scope.specs.Nodes.{JunctionFields, junctionNode, junctionDemand, addJunction, addNode}
 use Rattle.scope.specs.Tables.{idWords, nameWords, flag, marked, nodeSlot, nodeNumbers, demandNumbers}
 use Rattle.tables.specs.Table.{splice}
-use Rattle.tables.specs.Layout.{nodesAt, nodeSize, nodeSlotsAt, nodeNumbersAt, nodeNumbersSize, demandNumbersAt}
+use Rattle.scope.specs.Layout.{nodesAt, nodesWidth, nodeSlotsAt, nodeNumbersAt, nodeNumbersWidth, demandNumbersAt, demandSlotsLong}
+use Rattle.scope.specs.Sections.{roomNodes, roomDemands}
 use Rattle.tables.specs.Adding.{nodeAdded, demandAdded}
 use Rattle.tables.specs.Holding.{Holds, After}
 use Rattle.tables.specs.declared.Kept.the-variants.{Stored, Refused}
@@ -53,22 +54,22 @@ module _ {text : List ℕ} {m : Network} {s : Counts} {w : List ℕ} {f : List F
   node-used e = rw e (refl, refl, refl)
 
   module _ (free : lookup (nodeIds m) (part (id .at) (id .end) text) ≡ Nowhere) where
-    pub node-full : 256 ≤ s .nodes → After text (addNode (newNode (nameIn text id) k) m) (Refused Full) w f w f
+    pub node-full : roomNodes ≤ s .nodes → After text (addNode (newNode (nameIn text id) k) m) (Refused NoRoom) w f w f
     unfolding addNode
-    node-full n = rw (free, le-ltb (length (m .nodes)) 256 (omega (arith, n, count-nodes h))) (refl, refl, refl)
+    node-full n = rw (free, le-ltb (length (m .nodes)) roomNodes (omega (arith, n, count-nodes h))) (refl, refl, refl)
 
-    pub node-stored : {w1 : List ℕ} {f1 : List Float} (kind : ℕ) (name : Field) (last : ℕ) (amounts : List Float) → Fits text id → KindAs text k kind name last amounts → s .nodes < 256
-        → w1 ≡ marked (splice w (nodesAt + s .nodes * nodeSize) (newWords (nameIn text id) kind (optIn text name) last)) (nodeSlotsAt + nodeSlot (newNode (nameIn text id) k)) (s .nodes + 1) → f1 ≡ splice f (nodeNumbersAt + s .nodes * nodeNumbersSize) amounts
+    pub node-stored : {w1 : List ℕ} {f1 : List Float} (kind : ℕ) (name : Field) (last : ℕ) (amounts : List Float) → Fits text id → KindAs text k kind name last amounts → s .nodes < roomNodes
+        → w1 ≡ marked (splice w (nodesAt + s .nodes * nodesWidth) (newWords (nameIn text id) kind (optIn text name) last)) (nodeSlotsAt + nodeSlot (newNode (nameIn text id) k)) (s .nodes + 1) → f1 ≡ splice f (nodeNumbersAt + s .nodes * nodeNumbersWidth) amounts
         → After text (addNode (newNode (nameIn text id) k) m)
         (Stored (record { nodes = s .nodes + 1; links = s .links; curves = s .curves; points = s .points; patterns = s .patterns; multipliers = s .multipliers; demands = s .demands; rules = s .rules; clauses = s .clauses }))
         w f w1 f1
     unfolding addNode
     node-stored kind name last amounts fit a n ew ef =
         let x : Node = newNode (nameIn text id) k in
-        let ws = ew ∙ ap (λ (l : List ℕ). marked (splice w (nodesAt + s .nodes * nodeSize) (idWords (nameIn text id) ++ l ++ (0 ∷ []))) (nodeSlotsAt + nodeSlot x) (s .nodes + 1)) (sym (a .words)) in
-        let ns = ef ∙ ap (λ (l : List Float). splice f (nodeNumbersAt + s .nodes * nodeNumbersSize) l) (sym (a .numbers (nameIn text id))) in
+        let ws = ew ∙ ap (λ (l : List ℕ). marked (splice w (nodesAt + s .nodes * nodesWidth) (idWords (nameIn text id) ++ l ++ (0 ∷ []))) (nodeSlotsAt + nodeSlot x) (s .nodes + 1)) (sym (a .words)) in
+        let ns = ef ∙ ap (λ (l : List Float). splice f (nodeNumbersAt + s .nodes * nodeNumbersWidth) l) (sym (a .numbers (nameIn text id))) in
         let held = add-node h x (count-nodes h) n (sits-span text id fit, a .pattern) ws ns in
-        rw (free, lt-ltb (length (m .nodes)) 256 (omega (arith, n, count-nodes h))) (rw (h .counts, length-append), held)
+        rw (free, lt-ltb (length (m .nodes)) roomNodes (omega (arith, n, count-nodes h))) (rw (h .counts, length-append), held)
 
 -- ---- a junction
 module _ {text : List ℕ} {m : Network} {s : Counts} {w : List ℕ} {f : List Float} (h : Holds text m s w f) (j : JunctionLine) where
@@ -77,19 +78,19 @@ module _ {text : List ℕ} {m : Network} {s : Counts} {w : List ℕ} {f : List F
   junction-used e = rw e (refl, refl, refl)
 
   module _ (free : lookup (nodeIds m) (part (j .id .at) (j .id .end) text) ≡ Nowhere) where
-    pub nodes-full : 256 ≤ s .nodes → After text (addJunction (junctionIn text j) m) (Refused Full) w f w f
+    pub nodes-full : roomNodes ≤ s .nodes → After text (addJunction (junctionIn text j) m) (Refused NoRoom) w f w f
     unfolding addJunction
-    nodes-full n = rw (free, le-ltb (length (m .nodes)) 256 (omega (arith, n, count-nodes h))) (refl, refl, refl)
+    nodes-full n = rw (free, le-ltb (length (m .nodes)) roomNodes (omega (arith, n, count-nodes h))) (refl, refl, refl)
 
-    pub demands-full : s .nodes < 256 → 512 ≤ s .demands → After text (addJunction (junctionIn text j) m) (Refused Full) w f w f
+    pub demands-full : s .nodes < roomNodes → roomDemands ≤ s .demands → After text (addJunction (junctionIn text j) m) (Refused NoRoom) w f w f
     unfolding addJunction
     demands-full n d =
-        rw (free, lt-ltb (length (m .nodes)) 256 (omega (arith, n, count-nodes h)), le-ltb (length (m .demands)) 512 (omega (arith, d, count-demands h)))
+        rw (free, lt-ltb (length (m .nodes)) roomNodes (omega (arith, n, count-nodes h)), le-ltb (length (m .demands)) roomDemands (omega (arith, d, count-demands h)))
         (refl, refl, refl)
 
-    pub junction-stored : {w1 : List ℕ} {f1 : List Float} → Fits text (j .id) → MayFit text (j .pattern) → s .nodes < 256 → s .demands < 512
+    pub junction-stored : {w1 : List ℕ} {f1 : List Float} → Fits text (j .id) → MayFit text (j .pattern) → s .nodes < roomNodes → s .demands < roomDemands
         → w1 ≡ demandAdded (nodeAdded w (s .nodes) (junctionNode (junctionIn text j))) (s .demands) (junctionDemand (s .nodes) (junctionIn text j))
-        → f1 ≡ splice (splice f (nodeNumbersAt + s .nodes * nodeNumbersSize) (nodeNumbers (junctionNode (junctionIn text j)))) (demandNumbersAt + s .demands) (demandNumbers (junctionDemand (s .nodes) (junctionIn text j)))
+        → f1 ≡ splice (splice f (nodeNumbersAt + s .nodes * nodeNumbersWidth) (nodeNumbers (junctionNode (junctionIn text j)))) (demandNumbersAt + s .demands) (demandNumbers (junctionDemand (s .nodes) (junctionIn text j)))
         → After text (addJunction (junctionIn text j) m)
         (Stored (record { nodes = s .nodes + 1; links = s .links; curves = s .curves; points = s .points; patterns = s .patterns; multipliers = s .multipliers; demands = s .demands + 1; rules = s .rules; clauses = s .clauses }))
         w f w1 f1
@@ -97,10 +98,10 @@ module _ {text : List ℕ} {m : Network} {s : Counts} {w : List ℕ} {f : List F
     junction-stored fit may n d ew ef =
         let jf : JunctionFields = junctionIn text j in
         let w0 : List ℕ = nodeAdded w (s .nodes) (junctionNode jf) in
-        let f0 : List Float = splice f (nodeNumbersAt + s .nodes * nodeNumbersSize) (nodeNumbers (junctionNode jf)) in
+        let f0 : List Float = splice f (nodeNumbersAt + s .nodes * nodeNumbersWidth) (nodeNumbers (junctionNode jf)) in
         let h1 = add-node h {w′ = w0} {f′ = f0} (junctionNode jf) (count-nodes h) n (sits-span text (j .id) fit, tt) refl refl in
         let ws = ew ∙ ap (λ (i : ℕ). demandAdded w0 (s .demands) (junctionDemand i jf)) (count-nodes h) in
         let h2 = add-demand h1 (junctionDemand (length (m .nodes)) jf) (count-demands h) d (sits-field text (j .pattern) may) (omega (arith, length-append (m .nodes) (junctionNode jf ∷ [])))
-        (λ own. h .words .known .owned .beyond (length (m .nodes) % 256) (omega (arith, n, count-nodes h))) ws ef in
-        rw (free, lt-ltb (length (m .nodes)) 256 (omega (arith, n, count-nodes h)), lt-ltb (length (m .demands)) 512 (omega (arith, d, count-demands h)))
+        (λ own. h .words .known .owned .beyond (length (m .nodes) % demandSlotsLong) (omega (arith, n, count-nodes h))) ws ef in
+        rw (free, lt-ltb (length (m .nodes)) roomNodes (omega (arith, n, count-nodes h)), lt-ltb (length (m .demands)) roomDemands (omega (arith, d, count-demands h)))
         (rw (h .counts, length-append, length-append), h2)

@@ -4,11 +4,12 @@ ghost use Prim.Native.Nat.{_+_, _*_, _%_, _≤_, _<_};
 ghost use lib.ListN.{length, take};
 ghost use Rattle.fields.specs.Fields.{Name, fieldsAt, nameIn, part, Fits, optIn, MayFit};
 ghost use Rattle.scope.specs.Records.{Network, Node, NodeKind, lookup, nodeIds};
+ghost use Rattle.scope.specs.Sections.{roomNodes, roomDemands};
 ghost use Rattle.scope.specs.Values.{Read, onRead};
 ghost use Rattle.scope.specs.Nodes.{junctionNode, tankNode, junctionDemand, addJunction, addNode, junctionStep, reservoirStep, tankStep};
-ghost use Rattle.scope.specs.Tables.{keyOf, marked, slotOf, idWords, nodeNumbers, demandNumbers, recordWords, roomNumbers};
+ghost use Rattle.scope.specs.Tables.{keyOf, marked, slotOf, idWords, nodeNumbers, demandNumbers};
 ghost use Rattle.tables.specs.Table.{splice};
-ghost use Rattle.tables.specs.Layout.{nodesAt, nodeSize, nodeSlotsAt, nodeNumbersAt, nodeNumbersSize, demandsAt, demandSize, demandSlotsAt, demandNumbersAt};
+ghost use Rattle.scope.specs.Layout.{nodesAt, nodesWidth, nodeSlotsAt, nodeNumbersAt, nodeNumbersWidth, demandsAt, demandsWidth, demandSlotsAt, demandNumbersAt, recordWords, roomNumbers, demandSlotsLong};
 ghost use Rattle.tables.specs.Adding.{nodeAdded, demandAdded};
 ghost use Rattle.tables.specs.Holding.{Words, Holds, Sound, After};
 ghost use Rattle.nodelines.specs.Lines.{junctionIn, reservoirIn, tankIn, NodeAs};
@@ -21,77 +22,101 @@ use nodelines::NodeRead;
 use nodelines::ReservoirLine;
 use scope::Counts;
 use scope::Found;
+use scope::Kind;
 use scope::Reason;
 use scope::Tank;
 use tables::Kept;
 
 // ---- storing them
 
-const NODE_ROOM: usize = 256;
-
-const DEMAND_ROOM: usize = 512;
-
 // The words of node `i`, which has no place yet: `who` are its id's; a reservoir has a pattern's name, a tank a curve's; `last` is what its kind keeps in the last word.
 fn put_node(
     text: &[u8],
     i: usize,
-    who: [u64; 3],
+    who: [u64; tables::ID_WIDTH],
     kind: u64,
     name: Field,
     last: u64,
     words: &mut [u64],
 )
-    requires { ⌜ (i < 256) × (length (now words) ≡ recordWords) ⌝ }
-    ensures { λ _. ⌜ ((id : Name) → who ≡ idWords id → now (words .exit) ≡ marked (splice (now (words .entry)) (nodesAt + i * nodeSize) (newWords id kind (optIn (now (text .entry)) name) last)) (nodeSlotsAt + slotOf (keyOf (id .letters))) (i + 1)) ⌝ }
+    requires { ⌜ (i < roomNodes) × (length (now words) ≡ recordWords) ⌝ }
+    ensures { λ _. ⌜ ((id : Name) → who ≡ idWords id → now (words .exit) ≡ marked (splice (now (words .entry)) (nodesAt + i * nodesWidth) (newWords id kind (optIn (now (text .entry)) name) last)) (nodeSlotsAt + slotOf (keyOf (id .letters))) (i + 1)) ⌝ }
 {
     let which = tables::name_words(text, name);
     tables::paste_words(
         words,
-        tables::NODES + i * tables::NODE_WORDS,
-        &[who[0], who[1], who[2], kind, which[0], which[1], last, 0],
+        tables::NODES_AT + i * tables::NODES_WIDTH,
+        &[
+            who[tables::ID_PLACE],
+            who[tables::ID_LENGTH],
+            who[tables::ID_KEY],
+            kind,
+            which[tables::NAME_PLACE],
+            which[tables::NAME_LENGTH],
+            last,
+            0,
+        ],
     );
-    let slot = tables::slot_of(who[2]);
-    tables::mark(words, tables::NODE_SLOTS + slot, i);
+    let slot = tables::slot_of(who[tables::ID_KEY]);
+    tables::mark(words, tables::NODE_SLOTS_AT + slot, i);
 }
 
 // The words of demand `d`: node `n` has it from its own line.
 fn put_demand(text: &[u8], d: usize, n: usize, pattern: Field, words: &mut [u64])
-    requires { ⌜ (d < 512) × (length (now words) ≡ recordWords) ⌝ }
-    ensures { λ _. ⌜ now (words .exit) ≡ marked (splice (now (words .entry)) (demandsAt + d * demandSize) (ownWords n (optIn (now (text .entry)) pattern))) (demandSlotsAt + n % 256) (d + 1) ⌝ }
+    requires { ⌜ (d < roomDemands) × (length (now words) ≡ recordWords) ⌝ }
+    ensures { λ _. ⌜ now (words .exit) ≡ marked (splice (now (words .entry)) (demandsAt + d * demandsWidth) (ownWords n (optIn (now (text .entry)) pattern))) (demandSlotsAt + n % demandSlotsLong) (d + 1) ⌝ }
 {
     let which = tables::name_words(text, pattern);
     tables::paste_words(
         words,
-        tables::DEMANDS + d * tables::DEMAND_WORDS,
-        &[n as u64, 1, which[0], which[1], 0],
+        tables::DEMANDS_AT + d * tables::DEMANDS_WIDTH,
+        &[
+            n as u64,
+            1,
+            which[tables::NAME_PLACE],
+            which[tables::NAME_LENGTH],
+            0,
+        ],
     );
-    tables::mark(words, tables::DEMAND_SLOTS + n % 256, d);
+    tables::mark(
+        words,
+        tables::DEMAND_SLOTS_AT + n % tables::DEMAND_SLOTS_MOST,
+        d,
+    );
 }
 
 // A junction as node `n`, with its own demand as demand `d`; `who` are the words of its id.
 fn put_junction(
     text: &[u8],
     j: JunctionLine,
-    who: [u64; 3],
+    who: [u64; tables::ID_WIDTH],
     n: usize,
     d: usize,
     words: &mut [u64],
     numbers: &mut [f64],
 )
-    requires { ⌜ (n < 256) × (d < 512) × (length (now words) ≡ recordWords) × (length (now numbers) ≡ roomNumbers) × (who ≡ idWords (nameIn (now text) (j .id))) ⌝ }
+    requires { ⌜ (n < roomNodes) × (d < roomDemands) × (length (now words) ≡ recordWords) × (length (now numbers) ≡ roomNumbers) × (who ≡ idWords (nameIn (now text) (j .id))) ⌝ }
     ensures { λ _. ⌜ (now (words .exit) ≡ demandAdded (nodeAdded (now (words .entry)) n (junctionNode (junctionIn (now (text .entry)) j))) d (junctionDemand n (junctionIn (now (text .entry)) j)))
-        × (now (numbers .exit) ≡ splice (splice (now (numbers .entry)) (nodeNumbersAt + n * nodeNumbersSize) (nodeNumbers (junctionNode (junctionIn (now (text .entry)) j)))) (demandNumbersAt + d) (demandNumbers (junctionDemand n (junctionIn (now (text .entry)) j)))) ⌝ }
+        × (now (numbers .exit) ≡ splice (splice (now (numbers .entry)) (nodeNumbersAt + n * nodeNumbersWidth) (nodeNumbers (junctionNode (junctionIn (now (text .entry)) j)))) (demandNumbersAt + d) (demandNumbers (junctionDemand n (junctionIn (now (text .entry)) j)))) ⌝ }
 {
     let pattern = j.pattern;
     let disabled = tables::flag_of(j.disabled);
-    put_node(text, n, who, 1, Field::Nothing, disabled, words);
+    put_node(
+        text,
+        n,
+        who,
+        codes::JUNCTION,
+        Field::Nothing,
+        disabled,
+        words,
+    );
     put_demand(text, d, n, pattern, words);
     tables::paste_numbers(
         numbers,
-        tables::NODE_NUMBERS + n * tables::NUMBERS_OF_NODE,
+        tables::NODE_NUMBERS_AT + n * tables::NODE_NUMBERS_WIDTH,
         &[j.elevation, 0.0, 0.0, 0.0, 0.0, 0.0, 0.0, 0.0],
     );
-    tables::paste_numbers(numbers, tables::DEMAND_NUMBERS + d, &[j.demand]);
+    tables::paste_numbers(numbers, tables::DEMAND_NUMBERS_AT + d, &[j.demand]);
 }
 
 fn store_junction(
@@ -108,12 +133,19 @@ fn store_junction(
     let n = s.nodes;
     let d = s.demands;
     let who = tables::id_words(text, j.id);
-    let found = tables::find_node_by(text, words, n, who[2], fields::letters_of(text, j.id));
+    let found = tables::find(
+        text,
+        words,
+        Kind::Nodes,
+        n,
+        who[tables::ID_KEY],
+        fields::letters_of(text, j.id),
+    );
     if let Found::At(_) = found {
         return Kept::Refused(Reason::Used);
     }
-    if n < NODE_ROOM {
-        if d < DEMAND_ROOM {
+    if n < tables::NODES_MOST {
+        if d < tables::DEMANDS_MOST {
             put_junction(text, j, who, n, d, words, numbers);
             let mut t = s;
             t.nodes = n + 1;
@@ -121,7 +153,7 @@ fn store_junction(
             return Kept::Stored(t);
         }
     }
-    Kept::Refused(Reason::Full)
+    Kept::Refused(Reason::NoRoom)
 }
 
 // A reservoir or a tank: what its kind keeps stands in the words and the numbers that are given.
@@ -136,28 +168,35 @@ fn store_node(
     words: &mut [u64],
     numbers: &mut [f64],
 ) -> Kept
-    requires { ⌜ Sound (now text) s (now words) (now numbers) × (length (now amounts) ≡ nodeNumbersSize) ⌝ }
+    requires { ⌜ Sound (now text) s (now words) (now numbers) × (length (now amounts) ≡ nodeNumbersWidth) ⌝ }
     ensures { λ r. ⌜ (Fits (now (text .entry)) id → (k : NodeKind) → KindAs (now (text .entry)) k kind name last (now (amounts .entry)) → (m : Network) → Holds (now (text .entry)) m s (now (words .entry)) (now (numbers .entry))
         → After (now (text .entry)) (addNode (newNode (nameIn (now (text .entry)) id) k) m) r (now (words .entry)) (now (numbers .entry)) (now (words .exit)) (now (numbers .exit))) ⌝ }
 {
     let n = s.nodes;
     let who = tables::id_words(text, id);
-    let found = tables::find_node_by(text, words, n, who[2], fields::letters_of(text, id));
+    let found = tables::find(
+        text,
+        words,
+        Kind::Nodes,
+        n,
+        who[tables::ID_KEY],
+        fields::letters_of(text, id),
+    );
     if let Found::At(_) = found {
         return Kept::Refused(Reason::Used);
     }
-    if n < NODE_ROOM {
+    if n < tables::NODES_MOST {
         put_node(text, n, who, kind, name, last, words);
         tables::paste_numbers(
             numbers,
-            tables::NODE_NUMBERS + n * tables::NUMBERS_OF_NODE,
+            tables::NODE_NUMBERS_AT + n * tables::NODE_NUMBERS_WIDTH,
             amounts,
         );
         let mut t = s;
         t.nodes = n + 1;
         return Kept::Stored(t);
     }
-    Kept::Refused(Reason::Full)
+    Kept::Refused(Reason::NoRoom)
 }
 
 fn store_reservoir(
@@ -176,7 +215,7 @@ fn store_reservoir(
     store_node(
         text,
         id,
-        2,
+        codes::RESERVOIR,
         pattern,
         0,
         &[r.elevation, 0.0, 0.0, 0.0, 0.0, 0.0, 0.0, 0.0],
@@ -203,7 +242,7 @@ fn store_tank(
     store_node(
         text,
         id,
-        3,
+        codes::TANK,
         curve,
         overflow,
         &[

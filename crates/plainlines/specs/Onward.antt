@@ -7,15 +7,16 @@ use lib.ListN.{length}
 use lib.Ieee.{Float}
 use Rattle.lines.specs.Reader.{step}
 use Rattle.scope.specs.Lines.{inp}
-use Rattle.steps.specs.Held.{Model, Stands, Goes}
+use Rattle.scope.specs.Sections.{roomText}
+use Rattle.steps.specs.Held.{Model, Carries, Goes}
 use Rattle.steps.specs.declared.State.{State}
 use Rattle.steps.specs.declared.Turn.{Turn}
 
 -- a reading stands at s, in a text that is not too long
 pub record Ready (text : List ℕ) (s : State) (w : List ℕ) (f : List Float) : Type 0 where
   pub m : Model
-  pub stands : Stands text s w f m
-  pub short : length text ≤ 65536
+  pub stands : Carries text s w f m
+  pub short : length text ≤ roomText
 
 -- from s on, lines of class k take the state to t, and the tables to w′ and f′: no line, or one line more
 pub data Onward (text : List ℕ) (k : ℕ) (s : State) (w : List ℕ) (f : List Float) : State → List ℕ → List Float → Type 0 where

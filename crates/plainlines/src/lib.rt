@@ -5,7 +5,7 @@ ghost use mathlib.Core.List.{List};
 ghost use Prim.Native.Nat.{ℕ, _≤_};
 ghost use lib.ListN.{length};
 ghost use lib.Ieee.{Float};
-ghost use Rattle.scope.specs.Sections.{isRules};
+ghost use Rattle.scope.specs.Sections.{isRules, roomText};
 ghost use Rattle.sections.specs.Storing.{passesOver};
 ghost use Rattle.plainlines.specs.Onward.{Ready, Onward};
 use scope::Section;
@@ -13,7 +13,7 @@ use steps::State;
 use tables::Kept;
 
 // Where the lines end that were read, and the class that each of them has.
-pub struct Run {
+pub struct PlainRun {
     pub state: State,
     pub class: u8,
 }
@@ -25,7 +25,7 @@ fn file_lines(
     s: State,
     words: &mut [u64],
     numbers: &mut [f64],
-) -> Run
+) -> PlainRun
     requires { ⌜ Ready (now text) s (now words) (now numbers) × (section ≡ s .section) × (isRules section ≡ false) × (passesOver section ≡ false) ⌝ }
     ensures { λ r. ⌜ Onward (now (text .entry)) (r .class) s (now (words .entry)) (now (numbers .entry)) (r .state) (now (words .exit)) (now (numbers .exit)) ⌝ }
 {
@@ -38,28 +38,28 @@ fn file_lines(
             let counts = t.counts;
             let kept = sections::store_line(section, text, at, ends.cut, counts, words, numbers);
             let Kept::Stored(c) = kept else {
-                return Run {
+                return PlainRun {
                     state: t,
-                    class: steps::TAKEN,
+                    class: codes::TAKEN,
                 };
             };
             t = t.moved(section, c, e);
         } else {
-            return Run {
+            return PlainRun {
                 state: t,
-                class: steps::TAKEN,
+                class: codes::TAKEN,
             };
         }
     }
-    Run {
+    PlainRun {
         state: t,
-        class: steps::TAKEN,
+        class: codes::TAKEN,
     }
 }
 
 // The lines that join the open group: only the place and the line's number go on.
-fn join_lines(text: &[u8], s: State) -> Run
-    requires { ⌜ (s .line ≤ s .at) × (length (now text) ≤ 65536) ⌝ }
+fn join_lines(text: &[u8], s: State) -> PlainRun
+    requires { ⌜ (s .line ≤ s .at) × (length (now text) ≤ roomText) ⌝ }
     ensures { λ r. ⌜ ((w : List ℕ) (f : List Float) → Ready (now (text .entry)) s w f → Onward (now (text .entry)) (r .class) s w f (r .state) w f) ⌝ }
 {
     let section = s.section;
@@ -71,20 +71,20 @@ fn join_lines(text: &[u8], s: State) -> Run
             let counts = t.counts;
             t = t.moved(section, counts, e);
         } else {
-            return Run {
+            return PlainRun {
                 state: t,
-                class: steps::RULE_OPEN,
+                class: codes::RULE_OPEN,
             };
         }
     }
-    Run {
+    PlainRun {
         state: t,
-        class: steps::RULE_OPEN,
+        class: codes::RULE_OPEN,
     }
 }
 
 // The lines from s on that need no more than that. A line that is refused is not among them.
-pub fn plain_lines(text: &[u8], s: State, words: &mut [u64], numbers: &mut [f64]) -> Run
+pub fn plain_lines(text: &[u8], s: State, words: &mut [u64], numbers: &mut [f64]) -> PlainRun
     requires { ⌜ Ready (now text) s (now words) (now numbers) ⌝ }
     ensures { λ r. ⌜ Onward (now (text .entry)) (r .class) s (now (words .entry)) (now (numbers .entry)) (r .state) (now (words .exit)) (now (numbers .exit)) ⌝ }
 {
@@ -103,9 +103,9 @@ pub fn plain_lines(text: &[u8], s: State, words: &mut [u64], numbers: &mut [f64]
         Section::Coordinates => file_lines(Section::Coordinates, text, s, words, numbers),
         Section::Times => file_lines(Section::Times, text, s, words, numbers),
         Section::Rules => join_lines(text, s),
-        Section::Passed => Run {
+        Section::Passed => PlainRun {
             state: s,
-            class: steps::PASSED,
+            class: codes::PASSED,
         },
     }
 }

@@ -12,7 +12,8 @@ use lib.Ieee.{Float}
 use Rattle.scope.specs.declared.Counts.{Counts}
 use Rattle.scope.specs.declared.Answer.{Answer}
 use Rattle.scope.specs.Records.{Network}
-use Rattle.scope.specs.Tables.{recordWords, roomWords, roomNumbers, tallyWords, wordsOf, numbersOf}
+use Rattle.scope.specs.Tables.{tallyWords, wordsOf, numbersOf}
+use Rattle.scope.specs.Layout.{recordWords, roomWords, roomNumbers}
 use Rattle.scope.specs.Reading.{byText, says, told, strictOf, strictNetwork, tooSmall, wordsHolding, numbersHolding, strictAnswer, strictWords, strictNumbers}
 use Rattle.tables.specs.Table.{splice}
 use Rattle.tables.specs.Holding.{Words, Numbers, Holds}

@@ -11,8 +11,9 @@ use lib.Ieee.{Float}
 use Rattle.scope.specs.declared.Counts.{Counts}
 use Rattle.scope.specs.declared.Answer.{Answer}
 use Rattle.scope.specs.Records.{noNetwork, countsOf, zeroF}
-use Rattle.scope.specs.Tables.{recordWords, roomNumbers}
+use Rattle.scope.specs.Layout.{recordWords, roomNumbers}
 use Rattle.scope.specs.Reading.{allLow, byText, says, told, strictOf, networkIn, strictNetwork}
+use Rattle.scope.specs.Sections.{roomText}
 use Rattle.tables.specs.Holding.{Holds}
 use Rattle.tables.proofs.EmptyLaws.{empty}
 
@@ -46,14 +47,14 @@ abbrev pub Entered : List ℕ → List ℕ → List Float → Answer → Counts 
 Entered text w f a c = (a ≡ byText text (says 20 0) (says 21 0) (told (strictOf text))) × Holds text (strictNetwork text) c w f
 
 module _ (text : List ℕ) {w : List ℕ} {f : List Float} {a : Answer} {c : Counts} where
-  pub in-long : 65536 < length text → a ≡ says 20 0 → c ≡ countsOf noNetwork → Holds text noNetwork (countsOf noNetwork) w f → Entered text w f a c
+  pub in-long : roomText < length text → a ≡ says 20 0 → c ≡ countsOf noNetwork → Holds text noNetwork (countsOf noNetwork) w f → Entered text w f a c
   unfolding strictNetwork
-  in-long h ea ec hd = rw (lt-ltb 65536 (length text) h) (ea, rw ec hd)
+  in-long h ea ec hd = rw (lt-ltb roomText (length text) h) (ea, rw ec hd)
 
-  pub in-high : length text ≤ 65536 → allLow text ≡ false → a ≡ says 21 0 → c ≡ countsOf noNetwork → Holds text noNetwork (countsOf noNetwork) w f → Entered text w f a c
+  pub in-high : length text ≤ roomText → allLow text ≡ false → a ≡ says 21 0 → c ≡ countsOf noNetwork → Holds text noNetwork (countsOf noNetwork) w f → Entered text w f a c
   unfolding strictNetwork
-  in-high h k ea ec hd = rw (le-ltb 65536 (length text) h, k) (ea, rw ec hd)
+  in-high h k ea ec hd = rw (le-ltb roomText (length text) h, k) (ea, rw ec hd)
 
-  pub in-all : length text ≤ 65536 → allLow text ≡ true → Done text w f a c → Entered text w f a c
+  pub in-all : length text ≤ roomText → allLow text ≡ true → Done text w f a c → Entered text w f a c
   unfolding strictNetwork
-  in-all h k d = rw (le-ltb 65536 (length text) h, k) d
+  in-all h k d = rw (le-ltb roomText (length text) h, k) d

@@ -5,8 +5,10 @@ ghost use Prim.Native.Nat.{_≤_, _<_};
 ghost use lib.ListN.{length, take};
 ghost use lib.Dec.{ltb};
 ghost use Rattle.scope.specs.Answers.{reasonNo};
+ghost use Rattle.scope.specs.Sections.{roomText};
 ghost use Rattle.scope.specs.Records.{noNetwork, countsOf};
-ghost use Rattle.scope.specs.Tables.{recordWords, roomWords, roomNumbers, tallyWords};
+ghost use Rattle.scope.specs.Tables.{tallyWords};
+ghost use Rattle.scope.specs.Layout.{recordWords, roomWords, roomNumbers};
 ghost use Rattle.scope.specs.Reading.{allLow, byText, says, told, strictOf, networkIn, strictNetwork, tooSmall, strictAnswer, strictWords, strictNumbers};
 ghost use Rattle.tables.specs.Table.{splice};
 ghost use Rattle.tables.specs.Holding.{Holds};
@@ -14,11 +16,6 @@ ghost use Rattle.stored.specs.Back.{Stands};
 use scope::Answer;
 use scope::Counts;
 use scope::Reason;
-
-// The room of the text, and of the words with the counts after the records.
-pub const ROOM_TEXT: usize = 65536;
-
-const ROOM_WORDS: usize = 17137;
 
 // What a reading gives beside the tables: the answer, and how many records they hold.
 pub struct Strict {
@@ -30,7 +27,7 @@ pub struct Strict {
 
 // The lines, up to the first piece that is refused.
 fn run(text: &[u8], words: &mut [u64], numbers: &mut [f64]) -> Strict
-    requires { ⌜ (length (now text) ≤ 65536) × Holds (now text) noNetwork (countsOf noNetwork) (now words) (now numbers) ⌝ }
+    requires { ⌜ (length (now text) ≤ roomText) × Holds (now text) noNetwork (countsOf noNetwork) (now words) (now numbers) ⌝ }
     ensures { λ r. ⌜ (r .answer ≡ told (strictOf (now (text .entry)))) × Holds (now (text .entry)) (networkIn (strictOf (now (text .entry)))) (r .counts) (now (words .exit)) (now (numbers .exit)) ⌝ }
 {
     // Strict reading marks no lines: what is lent for the marks is not used.
@@ -70,7 +67,7 @@ fn refusal(why: Reason) -> Answer
     ensures { λ r. ⌜ r ≡ says (reasonNo why) 0 ⌝ }
 {
     Answer {
-        number: steps::reason_number(why),
+        number: codes::reason_number(why),
         line: 0,
     }
 }
@@ -92,7 +89,7 @@ fn strict_in(text: &[u8], words: &mut [u64], numbers: &mut [f64]) -> Strict
 {
     tables::clear_words(words);
     tables::clear_numbers(numbers);
-    if ROOM_TEXT < text.len() {
+    if tables::TEXT_ROOM < text.len() {
         return unread(Reason::TooLong);
     }
     if all_low(text) {
@@ -123,10 +120,10 @@ pub fn write_counts(words: &mut [u64], c: Counts)
 pub fn too_small(words: &[u64], numbers: &[f64]) -> bool
     ensures { λ r. ⌜ r ≡ tooSmall (length (now (words .entry))) (length (now (numbers .entry))) ⌝ }
 {
-    if words.len() < ROOM_WORDS {
+    if words.len() < tables::WORDS_ROOM {
         return true;
     }
-    numbers.len() < tables::NUMBERS
+    numbers.len() < tables::NUMBERS_ROOM
 }
 
 // STRICT: 28 where a table is too small, 20 and 21 for the text, else what the first refused piece gives, or 0.
@@ -142,7 +139,7 @@ pub fn read_strict(text: &[u8], words: &mut [u64], numbers: &mut [f64]) -> Answe
     let r = strict_in(
         text,
         &mut words[..tables::RECORD_WORDS],
-        &mut numbers[..tables::NUMBERS],
+        &mut numbers[..tables::NUMBERS_ROOM],
     );
     let counts = r.counts;
     write_counts(words, counts);

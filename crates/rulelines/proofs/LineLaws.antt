@@ -13,16 +13,16 @@ use Rattle.fields.proofs.FieldLaws.{part-take}
 use Rattle.scope.specs.declared.Found.{Found}
 use Rattle.scope.specs.declared.Found.the-variants.{At}
 use Rattle.scope.specs.declared.Operator.the-variants as operator
-use Rattle.scope.specs.Records.{Network, Action, Clause, condition, action, withClauses}
+use Rattle.scope.specs.Records.{Network, Action, Clause, condition, action, withClauses, noLink}
 use Rattle.scope.specs.Values.{Read, good, bad, onRead, countFrom}
-use Rattle.scope.specs.Rules.{noLink, kindFits, Draft, anded, actionOf, conditionOf, lineOf}
+use Rattle.scope.specs.Rules.{kindFits, Draft, anded, actionOf, conditionOf, lineOf}
 use Rattle.clauses.specs.Clauses.{optIn, MayFit, Head, deedFrom, actionWith, actionAt, ruleWord, lineBy}
 use Rattle.clauses.specs.declared.RuleWord.{RuleWord}
 use Rattle.clauses.specs.declared.RuleWord.the-variants as word
 use Rattle.clauses.proofs.ClauseLaws.{line-by}
 use Rattle.rulelines.specs.declared.LineRead.{LineRead}
 use Rattle.rulelines.specs.declared.LineRead.the-variants as line
-use Rattle.rulelines.specs.Lines.{Said, saidId, saidRank, saidCondition, saidAction, told, andSaid, saidBy, saidOf, saidRead, LineFits}
+use Rattle.rulelines.specs.Lines.{Said, saidId, saidRank, saidCondition, saidAction, withSaid, andSaid, saidBy, saidOf, saidRead, LineFits}
 
 -- ---- one thing after another
 on-then : {A B C : Type 0} (x : Read A) (f : A → B) (g : B → C) → onRead x (λ a. good (g (f a))) ≡ onRead (onRead x (λ a. good (f a))) (λ b. good (g b))
@@ -30,22 +30,22 @@ on-then (good a) f g = refl
 on-then (bad why) f g = refl
 
 -- ---- what a line says is what it makes of the draft
-and-said : (t : Bool) (m : Network) (d : Draft) (fs : List Name) → anded t m fs d ≡ onRead (andSaid t m (d .otherwise) fs) (λ s. good (told s d))
-and-said true m d fs = on-then (actionOf (d .otherwise) m fs) (saidAction true (d .otherwise)) (λ s. told s d)
-and-said false m d fs = on-then (conditionOf operator.And fs) saidCondition (λ s. told s d)
+and-said : (t : Bool) (m : Network) (d : Draft) (fs : List Name) → anded t m fs d ≡ onRead (andSaid t m (d .otherwise) fs) (λ s. good (withSaid s d))
+and-said true m d fs = on-then (actionOf (d .otherwise) m fs) (saidAction true (d .otherwise)) (λ s. withSaid s d)
+and-said false m d fs = on-then (conditionOf operator.And fs) saidCondition (λ s. withSaid s d)
 
-by-said : (w : RuleWord) (m : Network) (d : Draft) (fs : List Name) → lineBy w m d fs ≡ onRead (saidBy w m (d .acting) (d .otherwise) fs) (λ s. good (told s d))
+by-said : (w : RuleWord) (m : Network) (d : Draft) (fs : List Name) → lineBy w m d fs ≡ onRead (saidBy w m (d .acting) (d .otherwise) fs) (λ s. good (withSaid s d))
 by-said word.Rule m d [] = refl
 by-said word.Rule m d (n ∷ fs) = refl
-by-said word.If m d fs = on-then (conditionOf operator.And fs) saidCondition (λ s. told s d)
-by-said word.Or m d fs = on-then (conditionOf operator.Or fs) saidCondition (λ s. told s d)
-by-said word.Then m d fs = on-then (actionOf false m fs) (saidAction true (d .otherwise)) (λ s. told s d)
+by-said word.If m d fs = on-then (conditionOf operator.And fs) saidCondition (λ s. withSaid s d)
+by-said word.Or m d fs = on-then (conditionOf operator.Or fs) saidCondition (λ s. withSaid s d)
+by-said word.Then m d fs = on-then (actionOf false m fs) (saidAction true (d .otherwise)) (λ s. withSaid s d)
 by-said word.And m d fs = and-said (d .acting) m d fs
-by-said word.Else m d fs = on-then (actionOf true m fs) (saidAction (d .acting) true) (λ s. told s d)
-by-said word.Priority m d fs = on-then (countFrom fs) saidRank (λ s. told s d)
+by-said word.Else m d fs = on-then (actionOf true m fs) (saidAction (d .acting) true) (λ s. withSaid s d)
+by-said word.Priority m d fs = on-then (countFrom fs) saidRank (λ s. withSaid s d)
 by-said word.Unknown m d fs = refl
 
-pub line-said : (m : Network) (d : Draft) (fs : List Name) → lineOf m d fs ≡ onRead (saidOf m (d .acting) (d .otherwise) fs) (λ s. good (told s d))
+pub line-said : (m : Network) (d : Draft) (fs : List Name) → lineOf m d fs ≡ onRead (saidOf m (d .acting) (d .otherwise) fs) (λ s. good (withSaid s d))
 unfolding lineOf saidOf
 line-said m d [] = refl
 line-said m d (w ∷ fs) = line-by m d w fs ∙ by-said (ruleWord (w .letters)) m d fs
@@ -81,7 +81,7 @@ module _ (text : List ℕ) (end : ℕ) where
   said-text (line.Refused why) h = refl
 
 -- ---- a line adds one clause at most
-pub clauses-more : (s : Said) (d : Draft) → (length (d .clauses) ≤ length (told s d .clauses)) × (length (told s d .clauses) ≤ length (d .clauses) + 1)
+pub clauses-more : (s : Said) (d : Draft) → (length (d .clauses) ≤ length (withSaid s d .clauses)) × (length (withSaid s d .clauses) ≤ length (d .clauses) + 1)
 clauses-more (saidId n) d = (omega arith, omega arith)
 clauses-more (saidRank n) d = (omega arith, omega arith)
 clauses-more (saidCondition c) d = let h = length-append (d .clauses) (condition c ∷ []) in (omega (arith, h), omega (arith, h))

@@ -36,11 +36,11 @@ pub data Said : Type 0 where
   saidCondition : Condition → Said
   saidAction : Bool → Bool → Action → Said
 
-abbrev pub told : Said → Draft → Draft
-told (saidId n) d = withId n d
-told (saidRank n) d = withPriority n d
-told (saidCondition c) d = withClause (d .acting) (d .otherwise) (condition c) d
-told (saidAction acting otherwise a) d = withClause acting otherwise (action a) d
+abbrev pub withSaid : Said → Draft → Draft
+withSaid (saidId n) d = withId n d
+withSaid (saidRank n) d = withPriority n d
+withSaid (saidCondition c) d = withClause (d .acting) (d .otherwise) (condition c) d
+withSaid (saidAction acting otherwise a) d = withClause acting otherwise (action a) d
 
 -- by its first word, and whether a THEN and an ELSE were read before it
 abbrev pub idSaid : List Name → Read Said
@@ -58,7 +58,7 @@ saidBy word.Then m acting otherwise fs = onRead (actionOf false m fs) (λ a. goo
 saidBy word.And m acting otherwise fs = andSaid acting m otherwise fs
 saidBy word.Else m acting otherwise fs = onRead (actionOf true m fs) (λ a. good (saidAction acting true a))
 saidBy word.Priority m acting otherwise fs = onRead (countFrom fs) (λ n. good (saidRank n))
-saidBy word.Unknown m acting otherwise fs = bad reason.Unknown
+saidBy word.Unknown m acting otherwise fs = bad reason.UnknownWord
 
 unfoldable pub saidOf : Network → Bool → Bool → List Name → Read Said
 saidOf m acting otherwise [] = bad reason.Missing

@@ -22,6 +22,7 @@ use fields::Span;
 use scope::Action;
 use scope::Condition;
 use scope::Found;
+use scope::Kind;
 use scope::Operator;
 use scope::Reason;
 use values::ValueRead;
@@ -64,7 +65,7 @@ fn action_at(
 {
     let id = head.id;
     let kind = head.kind;
-    let found = tables::find_link(text, words, links, fields::letters_of(l, id));
+    let found = tables::find_named(text, words, Kind::Links, links, fields::letters_of(l, id));
     let Found::At(i) = found else {
         return ActionRead::Refused(Reason::NotFound);
     };
@@ -228,7 +229,7 @@ fn line_by(
             )
         }
         RuleWord::Priority => ranked_line(l, at),
-        RuleWord::Unknown => LineRead::Refused(Reason::Unknown),
+        RuleWord::Unknown => LineRead::Refused(Reason::UnknownWord),
     }
 }
 

@@ -13,7 +13,7 @@ use Rattle.scope.specs.Rules.{Draft, noDraft, conditionOf, actionOf, linesOf}
 use Rattle.clauses.specs.Clauses.{ruleWord}
 use Rattle.clauses.specs.declared.RuleWord.{RuleWord}
 use Rattle.clauses.specs.declared.RuleWord.the-variants as word
-use Rattle.rulelines.specs.Lines.{Said, saidId, saidRank, saidCondition, saidAction, told, andSaid, saidBy, saidOf}
+use Rattle.rulelines.specs.Lines.{Said, saidId, saidRank, saidCondition, saidAction, withSaid, andSaid, saidBy, saidOf}
 use Rattle.rulelines.proofs.LineLaws.{line-said}
 
 -- the actions among some clauses
@@ -75,9 +75,9 @@ actions-append (action a ∷ xs) ys = ap (λ (l : List Action). a ∷ l) (action
 
 -- what a line that says x does: its action, if it has one, and what was read before the next line
 pub record Does (m : Network) (d : Draft) (ds : List Deed) (t u : Bool) (x : Said) : Type 0 where
-  pub actions : map (λ (a : Action). good a) (actionsIn (told x d .clauses)) ≡ map (λ (a : Action). good a) (actionsIn (d .clauses)) ++ map (deedRead m) ds
-  pub then : told x d .acting ≡ t
-  pub else : told x d .otherwise ≡ u
+  pub actions : map (λ (a : Action). good a) (actionsIn (withSaid x d .clauses)) ≡ map (λ (a : Action). good a) (actionsIn (d .clauses)) ++ map (deedRead m) ds
+  pub then : withSaid x d .acting ≡ t
+  pub else : withSaid x d .otherwise ≡ u
 
 module _ (m : Network) (d : Draft) where
   one-action : (t u : Bool) (a : Action) (x : Deed) → deedRead m x ≡ good a → Does m d (x ∷ []) t u (saidAction t u a)
@@ -102,7 +102,7 @@ module _ (m : Network) (d : Draft) where
   on-condition (good c) y k = let z : saidCondition c ≡ y = cc in rw z at (no-action c)
   on-condition (bad why) y k = absurd (let z : _≡_ {A = ℕ} 0 1 = cc in omega arith)
 
-  no-clause : (x : Said) → told x d .clauses ≡ d .clauses → told x d .acting ≡ d .acting → told x d .otherwise ≡ d .otherwise → Does m d [] (d .acting) (d .otherwise) x
+  no-clause : (x : Said) → withSaid x d .clauses ≡ d .clauses → withSaid x d .acting ≡ d .acting → withSaid x d .otherwise ≡ d .otherwise → Does m d [] (d .acting) (d .otherwise) x
   no-clause x e f g = record { actions = ap (λ (cs : List Clause). map (λ (a : Action). good a) (actionsIn cs)) e ∙ sym (append-nil (map (λ (a : Action). good a) (actionsIn (d .clauses)))); then = f; else = g }
 
   on-rank : (o : Read ℕ) (y : Said) → onRead o (λ n. good (saidRank n)) ≡ good y → Does m d [] (d .acting) (d .otherwise) y
@@ -137,13 +137,13 @@ actions-from m ((w ∷ fs) ∷ ls) d e k =
     go : (o : Read Said)
         → ((y : Said) → o ≡ good y → Does m d (deedIn (ruleWord (w .letters)) (d .acting) (d .otherwise) fs) (thenAfter (ruleWord (w .letters)) (d .acting)) (elseAfter (ruleWord (w .letters)) (d .otherwise)) y)
         → ((x : Draft) → linesOf m x ls ≡ good e → map (λ (a : Action). good a) (actionsIn (e .clauses)) ≡ map (λ (a : Action). good a) (actionsIn (x .clauses)) ++ map (deedRead m) (deedsIn (x .acting) (x .otherwise) ls))
-        → onRead (onRead o (λ s. good (told s d))) (λ x. linesOf m x ls) ≡ good e
+        → onRead (onRead o (λ s. good (withSaid s d))) (λ x. linesOf m x ls) ≡ good e
         → map (λ (a : Action). good a) (actionsIn (e .clauses))
         ≡ map (λ (a : Action). good a) (actionsIn (d .clauses))
         ++ map (deedRead m) (deedIn (ruleWord (w .letters)) (d .acting) (d .otherwise) fs ++ deedsIn (thenAfter (ruleWord (w .letters)) (d .acting)) (elseAfter (ruleWord (w .letters)) (d .otherwise)) ls)
     go (good y) does rec j =
         let q = does y refl in
-        rec (told y d) j ∙ rw (q .actions, q .then, q .else)
+        rec (withSaid y d) j ∙ rw (q .actions, q .then, q .else)
         (append-assoc (map (λ (a : Action). good a) (actionsIn (d .clauses))) (map (deedRead m) (deedIn (ruleWord (w .letters)) (d .acting) (d .otherwise) fs)) (map (deedRead m) (deedsIn (thenAfter (ruleWord (w .letters)) (d .acting)) (elseAfter (ruleWord (w .letters)) (d .otherwise)) ls))
         ∙ ap (λ (l : List (Read Action)). map (λ (a : Action). good a) (actionsIn (d .clauses)) ++ l) (sym (map-append (deedRead m) (deedIn (ruleWord (w .letters)) (d .acting) (d .otherwise) fs) (deedsIn (thenAfter (ruleWord (w .letters)) (d .acting)) (elseAfter (ruleWord (w .letters)) (d .otherwise)) ls))))
     go (bad why) does rec j = absurd (let z : _≡_ {A = ℕ} 0 1 = cc in omega arith)

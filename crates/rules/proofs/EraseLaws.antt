@@ -12,7 +12,8 @@ use Rattle.scope.specs.declared.Counts.{Counts}
 use Rattle.scope.specs.Records.{Network, Clause, zeroF}
 use Rattle.scope.specs.Tables.{flat, region, blocks, wordBlocks, numberBlocks}
 use Rattle.tables.specs.Table.{splice}
-use Rattle.tables.specs.Layout.{clausesAt, clauseSize, clauseNumbersAt}
+use Rattle.scope.specs.Layout.{clausesAt, clausesWidth, clauseNumbersAt}
+use Rattle.scope.specs.Sections.{roomClauses}
 use Rattle.tables.specs.Holding.{Holds}
 use Rattle.tables.proofs.AfterLaws.{holds-words, holds-numbers}
 use Rattle.tables.proofs.RegionLaws.{drop-replicate, flat-length, region-puts, region-length}
@@ -72,7 +73,7 @@ erase-records {A} {R} {enc} {z} {bs} {b} {n} {base} {k} rs qs g {w} {w′} exact
 
 -- ---- both tables
 module _ {text : List ℕ} {m : Network} {s : Counts} {w0 : List ℕ} {f0 : List Float} (h : Holds text m s w0 f0) (cs : List Clause) {w : List ℕ} {f : List Float} (more : HoldsMore text m cs w f) where
-  erased-words : {w′ : List ℕ} → w′ ≡ splice w (clausesAt + length (m .clauses) * clauseSize) (replicate (length cs * clauseSize) 0) → w′ ≡ w0
+  erased-words : {w′ : List ℕ} → w′ ≡ splice w (clausesAt + length (m .clauses) * clausesWidth) (replicate (length cs * clausesWidth) 0) → w′ ≡ w0
   unfolding wordBlocks
   erased-words e = erase-records (m .clauses) cs (clause-words-lie (more .words .known)) (more .words .exact) e ∙ sym (h .words .exact)
 
@@ -82,19 +83,19 @@ module _ {text : List ℕ} {m : Network} {s : Counts} {w0 : List ℕ} {f0 : List
 
 -- the clauses that a group has put, `count` at most
 module _ {text : List ℕ} {m : Network} {s : Counts} {w0 : List ℕ} {f0 : List Float} (h : Holds text m s w0 f0) (cs : List Clause) {w : List ℕ} {f : List Float} (more : HoldsMore text m (fitting m cs) w f)
-    (base count end : ℕ) (eb : base ≡ length (m .clauses)) (ec : length cs ≡ count) (ee : end ≡ base + min (512 - base) count) where
+    (base count end : ℕ) (eb : base ≡ length (m .clauses)) (ec : length cs ≡ count) (ee : end ≡ base + min (roomClauses - base) count) where
   ends : end ≡ base + length (fitting m cs)
-  ends = ee ∙ ap (λ (k : ℕ). base + k) (rw (eb, ← ec) (sym (length-take (512 - length (m .clauses)) cs)))
+  ends = ee ∙ ap (λ (k : ℕ). base + k) (rw (eb, ← ec) (sym (length-take (roomClauses - length (m .clauses)) cs)))
 
-  inside : end ≤ 512
+  inside : end ≤ roomClauses
   inside = omega (arith, ends, eb, length-append (m .clauses) (fitting m cs), more .words .known .clauses .bound)
 
-  pub words-back : (ys : List ℕ) → ys ≡ replicate (length (midOf (clausesAt + base * clauseSize) (clausesAt + end * clauseSize - (clausesAt + base * clauseSize)) w)) 0
-      → putMid (clausesAt + base * clauseSize) (clausesAt + end * clauseSize - (clausesAt + base * clauseSize)) w ys ≡ w0
+  pub words-back : (ys : List ℕ) → ys ≡ replicate (length (midOf (clausesAt + base * clausesWidth) (clausesAt + end * clausesWidth - (clausesAt + base * clausesWidth)) w)) 0
+      → putMid (clausesAt + base * clausesWidth) (clausesAt + end * clausesWidth - (clausesAt + base * clausesWidth)) w ys ≡ w0
   words-back ys e =
-      let long : clausesAt + end * clauseSize - (clausesAt + base * clauseSize) ≡ length (fitting m cs) * clauseSize = omega (arith, ends) in
+      let long : clausesAt + end * clausesWidth - (clausesAt + base * clausesWidth) ≡ length (fitting m cs) * clausesWidth = omega (arith, ends) in
       erased-words h (fitting m cs) more
-      (part-cleared 0 w (clausesAt + base * clauseSize) (clausesAt + end * clauseSize) ys (omega (arith, ends)) (omega (arith, inside, holds-words more)) e ∙ rw (long, eb))
+      (part-cleared 0 w (clausesAt + base * clausesWidth) (clausesAt + end * clausesWidth) ys (omega (arith, ends)) (omega (arith, inside, holds-words more)) e ∙ rw (long, eb))
 
   pub numbers-back : (ys : List Float) → ys ≡ replicate (length (midOf (clauseNumbersAt + base) (clauseNumbersAt + end - (clauseNumbersAt + base)) f)) zeroF
       → putMid (clauseNumbersAt + base) (clauseNumbersAt + end - (clauseNumbersAt + base)) f ys ≡ f0

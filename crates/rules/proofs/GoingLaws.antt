@@ -13,7 +13,7 @@ use Rattle.scope.specs.Values.{Read, good, bad, onRead}
 use Rattle.scope.specs.Rules.{Draft, lineOf, linesOf, noDraft}
 use Rattle.headers.specs.Own.{groupFields, NextHere}
 use Rattle.rulelines.specs.declared.LineRead.{LineRead}
-use Rattle.rulelines.specs.Lines.{Said, told, saidOf, saidRead, LineFits}
+use Rattle.rulelines.specs.Lines.{Said, withSaid, saidOf, saidRead, LineFits}
 use Rattle.rulelines.proofs.LineLaws.{line-said, line-fits-text, said-text, clauses-more}
 use Rattle.judging.specs.declared.Sketch.{Sketch}
 use Rattle.judging.specs.declared.SketchRead.{SketchRead}
@@ -38,7 +38,7 @@ module _ {m : Network} {text : List ℕ} {at first p : ℕ} {q : Sketch} (g : Go
   pub line-fits : LineFits text r
   line-fits = line-fits-text text (s .end) r fits-line
 
-  line-is : lineOf m (g .d) (fieldsAt (take (s .end) text) (s .at)) ≡ onRead (saidRead text r) (λ x. good (told x (g .d)))
+  line-is : lineOf m (g .d) (fieldsAt (take (s .end) text) (s .at)) ≡ onRead (saidRead text r) (λ x. good (withSaid x (g .d)))
   line-is =
       let k : saidOf m (g .d .acting) (g .d .otherwise) (fieldsAt (take (s .end) text) (s .at)) ≡ saidRead text r =
       ap₂ (λ (t u : Bool). saidOf m t u (fieldsAt (take (s .end) text) (s .at))) (g .sketched .acting) (g .sketched .otherwise)
@@ -46,32 +46,32 @@ module _ {m : Network} {text : List ℕ} {at first p : ℕ} {q : Sketch} (g : Go
       ∙ sym er
       ∙ ap (λ (x : List ℕ). saidRead x r) el
       ∙ said-text text (s .end) r fits-line in
-      line-said m (g .d) (fieldsAt (take (s .end) text) (s .at)) ∙ ap (λ (o : Read Said). onRead o (λ x. good (told x (g .d)))) k
+      line-said m (g .d) (fieldsAt (take (s .end) text) (s .at)) ∙ ap (λ (o : Read Said). onRead o (λ x. good (withSaid x (g .d)))) k
 
-  lines-are : linesOf m (g .d) (groupFields text at p) ≡ onRead (onRead (saidRead text r) (λ x. good (told x (g .d)))) (λ e. linesOf m e (groupFields text at (s .end)))
+  lines-are : linesOf m (g .d) (groupFields text at p) ≡ onRead (onRead (saidRead text r) (λ x. good (withSaid x (g .d)))) (λ e. linesOf m e (groupFields text at (s .end)))
   unfolding linesOf
   lines-are = rw (h .whole, line-is)
 
-  grown : (o : Read Said) (e : Draft) → onRead o (λ x. good (told x (g .d))) ≡ good e → (length (g .d .clauses) ≤ length (e .clauses)) × (length (e .clauses) ≤ length (g .d .clauses) + 1)
-  grown (good x) e k = let z : told x (g .d) ≡ e = cc in rw z at (clauses-more x (g .d))
+  grown : (o : Read Said) (e : Draft) → onRead o (λ x. good (withSaid x (g .d))) ≡ good e → (length (g .d .clauses) ≤ length (e .clauses)) × (length (e .clauses) ≤ length (g .d .clauses) + 1)
+  grown (good x) e k = let z : withSaid x (g .d) ≡ e = cc in rw z at (clauses-more x (g .d))
   grown (bad why) e k = absurd (let z : _≡_ {A = ℕ} 0 1 = cc in omega arith)
 
-  pub next-same : (e : Draft) → onRead (saidRead text r) (λ x. good (told x (g .d))) ≡ good e → linesOf m noDraft (groupFields text at first) ≡ linesOf m e (groupFields text at (s .end))
+  pub next-same : (e : Draft) → onRead (saidRead text r) (λ x. good (withSaid x (g .d))) ≡ good e → linesOf m noDraft (groupFields text at first) ≡ linesOf m e (groupFields text at (s .end))
   next-same e k = g .same ∙ lines-are ∙ rw k
 
-  pub next-below : (e : Draft) → onRead (saidRead text r) (λ x. good (told x (g .d))) ≡ good e → length (e .clauses) ≤ s .end
+  pub next-below : (e : Draft) → onRead (saidRead text r) (λ x. good (withSaid x (g .d))) ≡ good e → length (e .clauses) ≤ s .end
   next-below e k = omega (arith, grown (saidRead text r) e k .1, g .below, h .after, h .some)
 
-  abbrev pub going-with : (e : Draft) (next : Sketch) → onRead (saidRead text r) (λ x. good (told x (g .d))) ≡ good e → Sketched text e next → Going m text at first (s .end) next
+  abbrev pub going-with : (e : Draft) (next : Sketch) → onRead (saidRead text r) (λ x. good (withSaid x (g .d))) ≡ good e → Sketched text e next → Going m text at first (s .end) next
   going-with e next k z = record { d = e; same = next-same e k; sketched = z; below = next-below e k }
 
-  module _ (v : SketchRead) (ev : SketchAs text (onRead (saidRead text r) (λ x. good (told x (g .d)))) v) where
-    pub seen-good : (next : Sketch) → v ≡ sketch.Good next → (e : Draft) × (onRead (saidRead text r) (λ x. good (told x (g .d))) ≡ good e) × Sketched text e next
-    seen-good next e = subst (λ (x : SketchRead). SketchAs text (onRead (saidRead text r) (λ x. good (told x (g .d)))) x) e ev
+  module _ (v : SketchRead) (ev : SketchAs text (onRead (saidRead text r) (λ x. good (withSaid x (g .d)))) v) where
+    pub seen-good : (next : Sketch) → v ≡ sketch.Good next → (e : Draft) × (onRead (saidRead text r) (λ x. good (withSaid x (g .d))) ≡ good e) × Sketched text e next
+    seen-good next e = subst (λ (x : SketchRead). SketchAs text (onRead (saidRead text r) (λ x. good (withSaid x (g .d)))) x) e ev
 
     pub going-bad : (why : Reason) → v ≡ sketch.Refused why → linesOf m noDraft (groupFields text at first) ≡ bad why
     going-bad why e =
-        let k = subst (λ (x : SketchRead). SketchAs text (onRead (saidRead text r) (λ x. good (told x (g .d)))) x) e ev in
+        let k = subst (λ (x : SketchRead). SketchAs text (onRead (saidRead text r) (λ x. good (withSaid x (g .d)))) x) e ev in
         g .same ∙ lines-are ∙ rw k
 
 pub falls : {text : List ℕ} {at p : ℕ} {s : Span} → NextHere text at p s → length (groupFields text at (s .end)) < length (groupFields text at p)

@@ -12,7 +12,8 @@ use Rattle.scope.specs.Values.{Read, good, bad}
 use Rattle.scope.specs.Tables.{clauseWords, clauseNumbers}
 use Rattle.scope.specs.Rules.{Draft}
 use Rattle.tables.specs.Table.{splice}
-use Rattle.tables.specs.Layout.{clausesAt, clauseSize, clauseNumbersAt}
+use Rattle.scope.specs.Layout.{clausesAt, clausesWidth, clauseNumbersAt}
+use Rattle.scope.specs.Sections.{roomClauses}
 use Rattle.tables.specs.Holding.{Holds}
 use Rattle.clauses.specs.Clauses.{conditionIn}
 use Rattle.rulelines.specs.declared.LineRead.{LineRead}
@@ -26,11 +27,11 @@ use Rattle.judging.specs.Sketches.{rankIn, Sketched}
 -- ---- the clauses
 -- a clause is put at the place n
 abbrev pub PutClause : ℕ → Clause → List ℕ → List Float → List ℕ → List Float → Type 0
-PutClause n c w f w′ f′ = (w′ ≡ splice w (clausesAt + n * clauseSize) (clauseWords c)) × (f′ ≡ splice f (clauseNumbersAt + n) (clauseNumbers c))
+PutClause n c w f w′ f′ = (w′ ≡ splice w (clausesAt + n * clausesWidth) (clauseWords c)) × (f′ ≡ splice f (clauseNumbersAt + n) (clauseNumbers c))
 
 -- the same where there is room; where there is none, nothing is put
 abbrev pub PutFitting : ℕ → Clause → List ℕ → List Float → List ℕ → List Float → Type 0
-PutFitting n c w f w′ f′ = (n < 512 → PutClause n c w f w′ f′) × (512 ≤ n → (w′ ≡ w) × (f′ ≡ f))
+PutFitting n c w f w′ f′ = (n < roomClauses → PutClause n c w f w′ f′) × (roomClauses ≤ n → (w′ ≡ w) × (f′ ≡ f))
 
 abbrev pub Put : List ℕ → ℕ → LineRead → List ℕ → List Float → List ℕ → List Float → Type 0
 Put text n (line.Named s) w f w′ f′ = (w′ ≡ w) × (f′ ≡ f)
@@ -45,7 +46,7 @@ HoldsMore text m cs w f = Holds text (withClauses (m .clauses ++ cs) m) (countsO
 
 -- of these clauses as many as there is room for after those of m
 abbrev pub fitting : Network → List Clause → List Clause
-fitting m cs = take (512 - length (m .clauses)) cs
+fitting m cs = take (roomClauses - length (m .clauses)) cs
 
 -- the lines of a group make a draft: its sketch, and its clauses in the tables. Where a line is refused the tables are as they were.
 abbrev pub Taken : List ℕ → Network → Read Draft → SketchRead → List ℕ → List Float → List ℕ → List Float → Type 0
@@ -57,7 +58,7 @@ abbrev pub ruleIn : List ℕ → Span → Sketch → ℕ → Rule
 ruleIn text id q first = record { id = nameIn text id; priority = rankIn (q .ranked) (q .priority); first = first; count = q .clauses }
 
 -- the tables held m, and hold the clauses of the draft d besides; q is its sketch
-pub record Written (text : List ℕ) (m : Network) (d : Draft) (q : Sketch) (s : Counts) (w : List ℕ) (f : List Float) (w′ : List ℕ) (f′ : List Float) : Type 0 where
+pub record ClausesPut (text : List ℕ) (m : Network) (d : Draft) (q : Sketch) (s : Counts) (w : List ℕ) (f : List Float) (w′ : List ℕ) (f′ : List Float) : Type 0 where
   pub was : Holds text m s w f
   pub sketched : Sketched text d q
   pub more : HoldsMore text m (fitting m (d .clauses)) w′ f′

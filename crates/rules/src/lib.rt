@@ -7,17 +7,18 @@ ghost use lib.ListN.{length};
 ghost use lib.Ieee.{Float};
 ghost use Rattle.scope.specs.declared.Counts.{Counts};
 ghost use Rattle.scope.specs.Records.{Network, Clause};
+ghost use Rattle.scope.specs.Sections.{roomRules, roomClauses};
 ghost use Rattle.scope.specs.Records as clause;
 ghost use Rattle.scope.specs.Tables.{valueNo, nameWords, valueNumber, countWords, ruleWords};
 ghost use Rattle.scope.specs.Rules.{Draft, linesOf, noDraft, judged, groupStep};
 ghost use Rattle.tables.specs.Table.{splice};
-ghost use Rattle.tables.specs.Layout.{rulesAt, ruleSize, clausesAt, clauseSize, clauseNumbersAt};
+ghost use Rattle.scope.specs.Layout.{rulesAt, rulesWidth, clausesAt, clausesWidth, clauseNumbersAt, recordWords, roomNumbers};
 ghost use Rattle.tables.specs.Holding.{Holds, Sound, After};
 ghost use Rattle.clauses.specs.Clauses.{optIn, conditionIn};
 ghost use Rattle.headers.specs.Own.{groupFields};
 ghost use Rattle.rulelines.specs.Lines.{actionIn};
 ghost use Rattle.judging.specs.Sketches.{rankIn};
-ghost use Rattle.rules.specs.Group.{ruleIn, PutClause, Put, HoldsMore, fitting, Taken, Written};
+ghost use Rattle.rules.specs.Group.{ruleIn, PutClause, Put, HoldsMore, fitting, Taken, ClausesPut};
 use fields::Field;
 use fields::Span;
 use headers::OwnLine;
@@ -46,23 +47,31 @@ fn put_clause(
     words: &mut [u64],
     numbers: &mut [f64],
 )
-    requires { ⌜ (n < 512) × (length (now words) ≡ 17128) × (length (now numbers) ≡ 8192) ⌝ }
-    ensures { λ _. ⌜ (now (words .exit) ≡ splice (now (words .entry)) (clausesAt + n * clauseSize) (kind ∷ one ∷ two ∷ three ∷ valueNo value ∷ nameWords (optIn (now (text .entry)) name)))
+    requires { ⌜ (n < roomClauses) × (length (now words) ≡ recordWords) × (length (now numbers) ≡ roomNumbers) ⌝ }
+    ensures { λ _. ⌜ (now (words .exit) ≡ splice (now (words .entry)) (clausesAt + n * clausesWidth) (kind ∷ one ∷ two ∷ three ∷ valueNo value ∷ nameWords (optIn (now (text .entry)) name)))
         × (now (numbers .exit) ≡ splice (now (numbers .entry)) (clauseNumbersAt + n) (valueNumber value ∷ [])) ⌝ }
 {
     let k = tables::name_words(text, name);
-    let v = numbering::value_word(value);
-    let x = numbering::value_number(value);
+    let v = codes::value_word(value);
+    let x = codes::value_number(value);
     tables::paste_words(
         words,
-        tables::CLAUSES + n * tables::CLAUSE_WORDS,
-        &[kind, one, two, three, v, k[0], k[1]],
+        tables::CLAUSES_AT + n * tables::CLAUSES_WIDTH,
+        &[
+            kind,
+            one,
+            two,
+            three,
+            v,
+            k[tables::NAME_PLACE],
+            k[tables::NAME_LENGTH],
+        ],
     );
-    tables::paste_numbers(numbers, tables::CLAUSE_NUMBERS + n, &[x]);
+    tables::paste_numbers(numbers, tables::CLAUSE_NUMBERS_AT + n, &[x]);
 }
 
 fn put_condition(text: &[u8], c: Condition, n: usize, words: &mut [u64], numbers: &mut [f64])
-    requires { ⌜ (n < 512) × (length (now words) ≡ 17128) × (length (now numbers) ≡ 8192) ⌝ }
+    requires { ⌜ (n < roomClauses) × (length (now words) ≡ recordWords) × (length (now numbers) ≡ roomNumbers) ⌝ }
     ensures { λ _. ⌜ PutClause n (clause.condition (conditionIn (now (text .entry)) c)) (now (words .entry)) (now (numbers .entry)) (now (words .exit)) (now (numbers .exit)) ⌝ }
 {
     let operator = c.operator;
@@ -70,14 +79,25 @@ fn put_condition(text: &[u8], c: Condition, n: usize, words: &mut [u64], numbers
     let comparison = c.comparison;
     let value = c.value;
     let name = c.name;
-    let o = numbering::operator_number(operator);
-    let t = numbering::target_number(target);
-    let k = numbering::comparison_number(comparison);
-    put_clause(text, n, 1, o, t, k, value, name, words, numbers);
+    let o = codes::operator_number(operator);
+    let t = codes::target_number(target);
+    let k = codes::comparison_number(comparison);
+    put_clause(
+        text,
+        n,
+        codes::CONDITION,
+        o,
+        t,
+        k,
+        value,
+        name,
+        words,
+        numbers,
+    );
 }
 
 fn put_action(text: &[u8], a: Action, n: usize, words: &mut [u64], numbers: &mut [f64])
-    requires { ⌜ (n < 512) × (length (now words) ≡ 17128) × (length (now numbers) ≡ 8192) ⌝ }
+    requires { ⌜ (n < roomClauses) × (length (now words) ≡ recordWords) × (length (now numbers) ≡ roomNumbers) ⌝ }
     ensures { λ _. ⌜ PutClause n (clause.action (actionIn (now (text .entry)) a)) (now (words .entry)) (now (numbers .entry)) (now (words .exit)) (now (numbers .exit)) ⌝ }
 {
     let value = a.value;
@@ -87,7 +107,7 @@ fn put_action(text: &[u8], a: Action, n: usize, words: &mut [u64], numbers: &mut
     put_clause(
         text,
         n,
-        2,
+        codes::ACTION,
         o,
         link,
         0,
@@ -100,10 +120,10 @@ fn put_action(text: &[u8], a: Action, n: usize, words: &mut [u64], numbers: &mut
 
 // The clause of a line, where it has one, at the place `n`, where there is room.
 fn put_line(text: &[u8], read: LineRead, n: usize, words: &mut [u64], numbers: &mut [f64])
-    requires { ⌜ (length (now words) ≡ 17128) × (length (now numbers) ≡ 8192) ⌝ }
+    requires { ⌜ (length (now words) ≡ recordWords) × (length (now numbers) ≡ roomNumbers) ⌝ }
     ensures { λ _. ⌜ Put (now (text .entry)) n read (now (words .entry)) (now (numbers .entry)) (now (words .exit)) (now (numbers .exit)) ⌝ }
 {
-    if 512 <= n {
+    if tables::CLAUSES_MOST <= n {
         return;
     }
     match read {
@@ -122,27 +142,27 @@ fn put_line(text: &[u8], read: LineRead, n: usize, words: &mut [u64], numbers: &
 
 // Where the clauses of a group end that has `count` of them, after `base` others.
 fn clauses_end(base: usize, count: usize) -> usize
-    requires { ⌜ base ≤ 512 ⌝ }
-    ensures { λ r. ⌜ r ≡ base + min (512 - base) count ⌝ }
+    requires { ⌜ base ≤ roomClauses ⌝ }
+    ensures { λ r. ⌜ r ≡ base + min (roomClauses - base) count ⌝ }
 {
-    if count < 512 - base {
+    if count < tables::CLAUSES_MOST - base {
         return base + count;
     }
-    512
+    tables::CLAUSES_MOST
 }
 
 // The clauses of a group are erased: `count` of them, after `base` others.
 fn erase_clauses(base: usize, count: usize, words: &mut [u64], numbers: &mut [f64])
-    requires { ⌜ (base ≤ 512) × (length (now words) ≡ 17128) × (length (now numbers) ≡ 8192) ⌝ }
+    requires { ⌜ (base ≤ roomClauses) × (length (now words) ≡ recordWords) × (length (now numbers) ≡ roomNumbers) ⌝ }
     ensures { λ _. ⌜ ((text : List ℕ) (m : Network) (s : Counts) (w : List ℕ) (f : List Float) (cs : List Clause) → Holds text m s w f → base ≡ length (m .clauses) → length cs ≡ count
         → HoldsMore text m (fitting m cs) (now (words .entry)) (now (numbers .entry)) → (now (words .exit) ≡ w) × (now (numbers .exit) ≡ f)) ⌝ }
 {
     let end = clauses_end(base, count);
-    let from = tables::CLAUSES + base * tables::CLAUSE_WORDS;
-    let to = tables::CLAUSES + end * tables::CLAUSE_WORDS;
+    let from = tables::CLAUSES_AT + base * tables::CLAUSES_WIDTH;
+    let to = tables::CLAUSES_AT + end * tables::CLAUSES_WIDTH;
     tables::clear_words(&mut words[from..to]);
-    let low = tables::CLAUSE_NUMBERS + base;
-    let high = tables::CLAUSE_NUMBERS + end;
+    let low = tables::CLAUSE_NUMBERS_AT + base;
+    let high = tables::CLAUSE_NUMBERS_AT + end;
     tables::clear_numbers(&mut numbers[low..high]);
 }
 
@@ -206,8 +226,8 @@ fn rank_words(ranked: bool, priority: u64) -> [u64; 2]
 
 // The rule of a group, its clauses being there.
 fn put_rule(text: &[u8], id: Span, q: Sketch, s: Counts, words: &mut [u64])
-    requires { ⌜ (s .rules < 64) × (length (now words) ≡ 17128) ⌝ }
-    ensures { λ _. ⌜ now (words .exit) ≡ splice (now (words .entry)) (rulesAt + s .rules * ruleSize) (ruleWords (ruleIn (now (text .entry)) id q (s .clauses))) ⌝ }
+    requires { ⌜ (s .rules < roomRules) × (length (now words) ≡ recordWords) ⌝ }
+    ensures { λ _. ⌜ now (words .exit) ≡ splice (now (words .entry)) (rulesAt + s .rules * rulesWidth) (ruleWords (ruleIn (now (text .entry)) id q (s .clauses))) ⌝ }
 {
     let k = tables::id_words(text, id);
     let r = rank_words(q.ranked, q.priority);
@@ -215,15 +235,23 @@ fn put_rule(text: &[u8], id: Span, q: Sketch, s: Counts, words: &mut [u64])
     let count = q.clauses as u64;
     tables::paste_words(
         words,
-        tables::RULES + s.rules * tables::RULE_WORDS,
-        &[k[0], k[1], k[2], first, count, r[0], r[1]],
+        tables::RULES_AT + s.rules * tables::RULES_WIDTH,
+        &[
+            k[tables::ID_PLACE],
+            k[tables::ID_LENGTH],
+            k[tables::ID_KEY],
+            first,
+            count,
+            r[0],
+            r[1],
+        ],
     );
 }
 
 // The rule of a group whose clauses are there; where the group is refused, they are erased.
 fn store_group(text: &[u8], q: Sketch, s: Counts, words: &mut [u64], numbers: &mut [f64]) -> Kept
-    requires { ⌜ ((m : Network) × (d : Draft) × (w : List ℕ) × (f : List Float) × Written (now text) m d q s w f (now words) (now numbers)) ⌝ }
-    ensures { λ r. ⌜ ((m : Network) (d : Draft) (w : List ℕ) (f : List Float) → Written (now (text .entry)) m d q s w f (now (words .entry)) (now (numbers .entry))
+    requires { ⌜ ((m : Network) × (d : Draft) × (w : List ℕ) × (f : List Float) × ClausesPut (now text) m d q s w f (now words) (now numbers)) ⌝ }
+    ensures { λ r. ⌜ ((m : Network) (d : Draft) (w : List ℕ) (f : List Float) → ClausesPut (now (text .entry)) m d q s w f (now (words .entry)) (now (numbers .entry))
         → After (now (text .entry)) (judged d m) r w f (now (words .exit)) (now (numbers .exit))) ⌝ }
 {
     let answer = judging::judge_group(text, q, words, s);

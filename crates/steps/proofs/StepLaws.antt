@@ -18,13 +18,13 @@ use Rattle.scope.specs.declared.Section.{Section}
 use Rattle.scope.specs.declared.Section.the-variants.{Rules}
 use Rattle.scope.specs.declared.Counts.{Counts}
 use Rattle.scope.specs.declared.Reason.{Reason}
-use Rattle.scope.specs.declared.Reason.the-variants.{Missing, Malformed, Used, NotFound, WrongKind, Falling, Unknown, NoCondition, NoAction, NoId, TooLong, HighByte, Beyond, Full, SmallTable}
+use Rattle.scope.specs.declared.Reason.the-variants.{Missing, Malformed, Used, NotFound, WrongKind, XFalls, UnknownWord, NoCondition, NoAction, NoId, TooLong, HighByte, BeyondReach, NoRoom, SmallTable}
 use Rattle.scope.specs.Sections.{isRules}
 use Rattle.scope.specs.Answers.{reasonNo}
 use Rattle.scope.specs.Records.{Network}
 use Rattle.scope.specs.Lines.{sortOf}
 use Rattle.tables.specs.Holding.{Holds, Sound}
-use Rattle.steps.specs.Held.{Model, Group, Stands, Stepped, ownLine, movedTo, joinedTo, shutTo}
+use Rattle.steps.specs.Held.{Model, Group, Carries, Stepped, ownLine, movedTo, joinedTo, shutTo}
 use Rattle.steps.specs.declared.State.{State}
 use Rattle.steps.proofs.GroupLaws.{group-on, group-new}
 
@@ -38,15 +38,15 @@ some-reason Malformed e = omega arith
 some-reason Used e = omega arith
 some-reason NotFound e = omega arith
 some-reason WrongKind e = omega arith
-some-reason Falling e = omega arith
-some-reason Unknown e = omega arith
+some-reason XFalls e = omega arith
+some-reason UnknownWord e = omega arith
 some-reason NoCondition e = omega arith
 some-reason NoAction e = omega arith
 some-reason NoId e = omega arith
 some-reason TooLong e = omega arith
 some-reason HighByte e = omega arith
-some-reason Beyond e = omega arith
-some-reason Full e = omega arith
+some-reason BeyondReach e = omega arith
+some-reason NoRoom e = omega arith
 some-reason SmallTable e = omega arith
 
 -- the class of a line that closes a group of class k
@@ -58,7 +58,7 @@ own-class false x k = refl
 retold : {m : Model} {l : Line} {o : L.Outcome Section Network} {a a′ b c p p′ : ℕ} → a ≡ a′ → p ≡ p′ → Tells m l o a b c p → Tells m l o a′ b c p′
 retold ea ep t = record { its-class = sym ea ∙ t .its-class; its-closed = t .its-closed; its-reason = t .its-reason; its-piece = sym ep ∙ t .its-piece; fair = t .fair }
 
-module _ {text w : List ℕ} {f : List Float} {s : State} {m : Model} (hs : Stands text s w f m) (h : s .at < length text) (e : ℕ)
+module _ {text w : List ℕ} {f : List Float} {s : State} {m : Model} (hs : Carries text s w f m) (h : s .at < length text) (e : ℕ)
     (he : e ≡ s .at + lineLen (drop (s .at) text)) where
   abbrev pub l : Line
   l = lineAt text (s .at) (s .line + 1)
@@ -116,7 +116,7 @@ module _ {text w : List ℕ} {f : List Float} {s : State} {m : Model} (hs : Stan
 
   -- a line that is judged: the counts c and the tables hold the network n
   module _ {w′ : List ℕ} {f′ : List Float} (o : ownBy isRules k (s .section) ≡ false) (z : secBy k (s .section) ≡ s .section) where
-    stored-stands : (n : Network) (c : Counts) → Holds text n c w′ f′ → Stands text (movedTo s (s .section) c e) w′ f′ (standing (m .sec) (m .group) n)
+    stored-stands : (n : Network) (c : Counts) → Holds text n c w′ f′ → Carries text (movedTo s (s .section) c e) w′ f′ (standing (m .sec) (m .group) n)
     stored-stands n c hd = record { sec = hs .sec; none = hs .none; group = on (s .section) o z; recs = hd; line = line-le; here = end-le text (s .at) e h he }
 
     pub taken-step : (n : Network) (c : Counts) → Holds text n c w′ f′
@@ -136,10 +136,10 @@ module _ {text w : List ℕ} {f : List Float} {s : State} {m : Model} (hs : Stan
 
   -- the group closes
   module _ {w′ : List ℕ} {f′ : List Float} (g : s .grouped ≡ true) where
-    shut-stands : (n : Network) (c : Counts) → Holds text n c w′ f′ → Stands text (shutTo s c e) w′ f′ (standing (m .sec) [] n)
+    shut-stands : (n : Network) (c : Counts) → Holds text n c w′ f′ → Carries text (shutTo s c e) w′ f′ (standing (m .sec) [] n)
     shut-stands n c hd = record { sec = hs .sec; none = λ _. refl; group = never; recs = hd; line = line-le; here = end-le text (s .at) e h he }
 
-    closed-stands : (d : Bool) (v : L.Verdict Network) (c : Counts) → Holds text (settle v (m .recs)) c w′ f′ → Stands text (shutTo s c e) w′ f′ (next m l (closes v (ownLine d (m .sec))))
+    closed-stands : (d : Bool) (v : L.Verdict Network) (c : Counts) → Holds text (settle v (m .recs)) c w′ f′ → Carries text (shutTo s c e) w′ f′ (next m l (closes v (ownLine d (m .sec))))
     unfolding next
     closed-stands true v c hd = shut-stands (settle v (m .recs)) c hd
     closed-stands false v c hd = shut-stands (settle v (m .recs)) c hd
@@ -165,5 +165,5 @@ module _ {text w : List ℕ} {f : List Float} {s : State} {m : Model} (hs : Stan
     }
 
 -- some network is held
-pub sound : {text w : List ℕ} {f : List Float} {s : State} {m : Model} → Stands text s w f m → Sound text (s .counts) w f
+pub sound : {text w : List ℕ} {f : List Float} {s : State} {m : Model} → Carries text s w f m → Sound text (s .counts) w f
 sound {m = m} st = record { m = m .recs; holds = st .recs }

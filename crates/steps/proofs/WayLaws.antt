@@ -31,7 +31,7 @@ use Rattle.tables.specs.declared.Kept.the-variants.{Stored, Refused}
 use Rattle.tables.proofs.AfterLaws.{after-stored, after-refused}
 use Rattle.headers.specs.Own.{sortIn, plainBy, groupFields}
 use Rattle.sections.specs.Storing.{passesOver, lineStep}
-use Rattle.steps.specs.Held.{Model, Stands, Fits, Plain, Stepped, Goes, ownLine, movedTo, joinedTo, shutTo, filedBy, joinedBy}
+use Rattle.steps.specs.Held.{Model, Carries, Fits, Plain, Stepped, Goes, ownLine, movedTo, joinedTo, shutTo, filedBy, joinedBy}
 use Rattle.steps.specs.declared.State.{State}
 use Rattle.steps.specs.declared.Turn.{Turn}
 use Rattle.headers.specs.declared.Sort.{Sort}
@@ -131,7 +131,7 @@ module _ {text w : List ℕ} {f : List Float} {s : State} (fit : Fits text s w f
   here = lineAt text (s .at) (s .line + 1)
 
   -- ---- close
-  shut-is : (m : Model) → Stands text s w f m → s .grouped ≡ true → shut inp m ≡ verdict (groupStep (groupFields text (s .at) (s .first)) (m .recs))
+  shut-is : (m : Model) → Carries text s w f m → s .grouped ≡ true → shut inp m ≡ verdict (groupStep (groupFields text (s .at) (s .first)) (m .recs))
   unfolding shut inp
   shut-is m hs g =
       let gr = hs .group g in
@@ -171,7 +171,7 @@ module _ {text w : List ℕ} {f : List Float} {s : State} (fit : Fits text s w f
     not-own : isRules (s .section) ≡ false → ownBy isRules (sortOf (bodyAt text (s .at))) (s .section) ≡ false
     not-own a = p .own (s .section) ∙ a
 
-    filed-is : (end : ℕ) → isRules (s .section) ≡ false → passesOver (s .section) ≡ false → end ≡ s .at + length (cutOf (drop (s .at) (take e text))) → (m : Model) → Stands text s w f m
+    filed-is : (end : ℕ) → isRules (s .section) ≡ false → passesOver (s .section) ≡ false → end ≡ s .at + length (cutOf (drop (s .at) (take e text))) → (m : Model) → Carries text s w f m
         → act inp false other (isRules (m .sec)) m here ≡ filed (verdict (lineStep (s .section) (fieldsAt (take end text) (s .at)) (m .recs)))
     filed-is end a b z m hs = files m here (s .section) (hs .sec) a b ∙ ap (λ x. filed (verdict (lineStep (s .section) x (m .recs)))) (sym (body-cut z))
 
@@ -219,7 +219,7 @@ module _ {text w : List ℕ} {f : List Float} {s : State} (fit : Fits text s w f
     way-start z go m hs =
         becomes (start-other m here (isRules (s .section)) (ap isRules (hs .sec)) (λ a. hs .none (rw a at z))) (go m hs)
 
-    ending : (m : Model) (l : Line) → Stands text s w f m → isRules (s .section) ≡ true → s .grouped ≡ true
+    ending : (m : Model) (l : Line) → Carries text s w f m → isRules (s .section) ≡ true → s .grouped ≡ true
         → act inp false start (isRules (m .sec)) m l ≡ closes (shut inp m) last
     unfolding act
     ending m l hs a g =
@@ -236,7 +236,7 @@ module _ {text w : List ℕ} {f : List Float} {s : State} (fit : Fits text s w f
   unfolding act ifOpen
   blanks m l t z = rw z
 
-  blank-shuts : (m : Model) (l : Line) (t : Bool) → Stands text s w f m → s .grouped ≡ true → act inp false empty t m l ≡ closes (shut inp m) (itself isBlank (m .sec))
+  blank-shuts : (m : Model) (l : Line) (t : Bool) → Carries text s w f m → s .grouped ≡ true → act inp false empty t m l ≡ closes (shut inp m) (itself isBlank (m .sec))
   unfolding act
   blank-shuts m l t hs g =
       let st = hs .group g .stretch in
@@ -304,21 +304,21 @@ module _ {text w : List ℕ} {f : List Float} {s : State} (fit : Fits text s w f
 
   -- ---- a line that is stored at once
   module _ (b : filedBy (plainBy (startTrimmed (drop (s .at) (take e text)))) (s .section) ≡ true) where
-    pub told : (plainBy (startTrimmed (drop (s .at) (take e text))) ≡ true) × (isRules (s .section) ≡ false) × (passesOver (s .section) ≡ false)
-    told = at-once (plainBy (startTrimmed (drop (s .at) (take e text)))) (s .section) b
+    pub at-once-told : (plainBy (startTrimmed (drop (s .at) (take e text))) ≡ true) × (isRules (s .section) ≡ false) × (passesOver (s .section) ≡ false)
+    at-once-told = at-once (plainBy (startTrimmed (drop (s .at) (take e text)))) (s .section) b
 
     pub plain-told : Plain (sortOf (bodyAt text (s .at)))
-    plain-told = plain-by (told .0)
+    plain-told = plain-by (at-once-told .0)
 
     pub way-told : {r : Turn} {w′ : List ℕ} {f′ : List Float} → Goes text s w f (λ m l. act inp false other (isRules (m .sec)) m l) r w′ f′ → Goes text s w f (step inp false) r w′ f′
-    way-told go = way-by (told .0) go
+    way-told go = way-by (at-once-told .0) go
 
     module _ {w′ : List ℕ} {f′ : List Float} {kept : Kept} {end : ℕ} (z : end ≡ s .at + length (cutOf (drop (s .at) (take e text))))
         (ens : (n : Network) → Holds text n (s .counts) w f → After text (lineStep (s .section) (fieldsAt (take end text) (s .at)) n) kept w f w′ f′) where
       pub way-stored : {c : Counts} {st : State} → kept ≡ Stored c → st ≡ movedTo s (s .section) c e
           → Goes text s w f (step inp false) (record { state = st; class = 4; closed = 0; reason = 0; piece = s .line + 1 }) w′ f′
-      way-stored q es = way-told (way-taken plain-told (told .1) (told .2) z ens q es)
+      way-stored q es = way-told (way-taken plain-told (at-once-told .1) (at-once-told .2) z ens q es)
 
       pub way-unstored : {n : Reason} → kept ≡ Refused n
           → Goes text s w f (step inp false) (record { state = movedTo s (s .section) (s .counts) e; class = 5; closed = 0; reason = reasonNo n; piece = s .line + 1 }) w′ f′
-      way-unstored q = way-told (way-refused plain-told (told .1) (told .2) z ens q refl refl)
+      way-unstored q = way-told (way-refused plain-told (at-once-told .1) (at-once-told .2) z ens q refl refl)

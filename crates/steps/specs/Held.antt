@@ -14,7 +14,7 @@ use Rattle.lines.specs.Turn.{Tells}
 use Rattle.scope.specs.declared.Section.{Section}
 use Rattle.scope.specs.declared.Section.the-variants.{Rules, Passed}
 use Rattle.scope.specs.declared.Counts.{Counts}
-use Rattle.scope.specs.Sections.{isRules}
+use Rattle.scope.specs.Sections.{isRules, roomText}
 use Rattle.scope.specs.Records.{Network, noNetwork, countsOf}
 use Rattle.scope.specs.Lines.{sortOf, ruleFields}
 use Rattle.tables.specs.Holding.{Holds}
@@ -34,7 +34,7 @@ pub record Group (text : List ℕ) (first no at : ℕ) (s : Section) (g : List L
   pub fields : map ruleFields g ≡ groupFields text at first
 
 -- the state and the tables hold where a reading stands
-pub record Stands (text : List ℕ) (s : State) (w : List ℕ) (f : List Float) (m : Model) : Type 0 where
+pub record Carries (text : List ℕ) (s : State) (w : List ℕ) (f : List Float) (m : Model) : Type 0 where
   pub sec : m .sec ≡ s .section
   pub none : s .grouped ≡ false → m .group ≡ []
   pub group : s .grouped ≡ true → Group text (s .first) (s .no) (s .at) (s .section) (m .group)
@@ -45,8 +45,8 @@ pub record Stands (text : List ℕ) (s : State) (w : List ℕ) (f : List Float) 
 -- what the code needs to read the next line
 pub record Fits (text : List ℕ) (s : State) (w : List ℕ) (f : List Float) : Type 0 where
   pub m : Model
-  pub stands : Stands text s w f m
-  pub short : length text ≤ 65536
+  pub stands : Carries text s w f m
+  pub short : length text ≤ roomText
   pub more : s .at < length text
 
 -- ---- the state after a line that ends at e: moved on, to a section and counts; joined to the group; the group shut
@@ -84,7 +84,7 @@ pub record Plain (k : L.Sort Section) : Type 0 where
 
 -- line l, whose outcome is o, takes s and m to r
 pub record Stepped (text : List ℕ) (s : State) (l : Line) (m : Model) (o : Outcome Section Network) (r : Turn) (w : List ℕ) (f : List Float) : Type 0 where
-  pub stands : Stands text (r .state) w f (next m l o)
+  pub stands : Carries text (r .state) w f (next m l o)
   pub tells : Tells m l o (r .class) (r .closed) (r .reason) (r .piece)
   pub at : r .state .at ≡ s .at + length (l .body)
   pub line : r .state .line ≡ s .line + 1
@@ -92,7 +92,7 @@ pub record Stepped (text : List ℕ) (s : State) (l : Line) (m : Model) (o : Out
 -- wherever the reading stands that s and the tables hold, the next line, whose outcome is φ, takes it to r
 abbrev pub Goes : List ℕ → State → List ℕ → List Float → (Model → Line → Outcome Section Network) → Turn → List ℕ → List Float → Type 0
 Goes text s w f φ r w′ f′ =
-    (m : Model) → Stands text s w f m
+    (m : Model) → Carries text s w f m
     → Stepped text s (lineAt text (s .at) (s .line + 1)) m (φ m (lineAt text (s .at) (s .line + 1))) r w′ f′
 
 -- a line is stored at once: it is told to be neither blank nor a header nor a group's start, and the section stores

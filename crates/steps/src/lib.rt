@@ -6,8 +6,7 @@ ghost use lib.ListN.{length, take, drop};
 ghost use Rattle.scans.specs.Lines.{lineLen, startTrimmed, cutOf};
 ghost use Rattle.lines.specs.Reader.{act, step, empty, start, other, closes, shut};
 ghost use Rattle.lines.specs.Text.{bodyAt};
-ghost use Rattle.scope.specs.Sections.{isRules};
-ghost use Rattle.scope.specs.Answers.{reasonNo};
+ghost use Rattle.scope.specs.Sections.{isRules, roomLines};
 ghost use Rattle.scope.specs.Records.{noNetwork, countsOf};
 ghost use Rattle.scope.specs.Lines.{sortOf, inp};
 ghost use Rattle.sections.specs.Storing.{passesOver};
@@ -15,26 +14,8 @@ ghost use Rattle.headers.specs.Own.{sortIn, plainBy};
 ghost use Rattle.steps.specs.Held.{Fits, Plain, Goes, ownLine, movedTo, joinedTo, shutTo, newState, filedBy, joinedBy};
 use headers::Sort;
 use scope::Counts;
-use scope::Reason;
 use scope::Section;
 use tables::Kept;
-
-// The classes of lines.
-pub const BLANK: u8 = 1;
-
-pub const HEADER: u8 = 2;
-
-pub const PASSED: u8 = 3;
-
-pub const TAKEN: u8 = 4;
-
-pub const REFUSED: u8 = 5;
-
-pub const RULE_TAKEN: u8 = 6;
-
-pub const RULE_REFUSED: u8 = 7;
-
-pub const RULE_OPEN: u8 = 8;
 
 // The reading: the section, the open group by its first line's place and number, the counts, and the next line.
 pub struct State {
@@ -54,28 +35,6 @@ pub struct Turn {
     pub closed: u8,
     pub reason: u8,
     pub piece: usize,
-}
-
-pub fn reason_number(r: Reason) -> u8
-    ensures { λ n. ⌜ n ≡ reasonNo r ⌝ }
-{
-    match r {
-        Reason::Missing => 1,
-        Reason::Malformed => 2,
-        Reason::Used => 3,
-        Reason::NotFound => 4,
-        Reason::WrongKind => 5,
-        Reason::Falling => 6,
-        Reason::Unknown => 7,
-        Reason::NoCondition => 8,
-        Reason::NoAction => 9,
-        Reason::NoId => 10,
-        Reason::TooLong => 20,
-        Reason::HighByte => 21,
-        Reason::Beyond => 22,
-        Reason::Full => 23,
-        Reason::SmallTable => 28,
-    }
 }
 
 pub fn no_counts() -> Counts
@@ -114,7 +73,7 @@ impl State {
 
     // Past the line that ends at `e`, in a section, with the counts after it.
     pub fn moved(self, section: Section, counts: Counts, e: usize) -> Self
-        requires { ⌜ self .line < 65536 ⌝ }
+        requires { ⌜ self .line < roomLines ⌝ }
         ensures { λ r. ⌜ r ≡ movedTo self section counts e ⌝ }
     {
         State {
@@ -130,7 +89,7 @@ impl State {
 
     // The line joins the open group, or opens one.
     fn joined(self, e: usize) -> Self
-        requires { ⌜ self .line < 65536 ⌝ }
+        requires { ⌜ self .line < roomLines ⌝ }
         ensures { λ r. ⌜ r ≡ joinedTo self e ⌝ }
     {
         let section = self.section;
@@ -159,7 +118,7 @@ impl State {
 
     // The group is shut.
     fn shut(self, counts: Counts, e: usize) -> Self
-        requires { ⌜ self .line < 65536 ⌝ }
+        requires { ⌜ self .line < roomLines ⌝ }
         ensures { λ r. ⌜ r ≡ shutTo self counts e ⌝ }
     {
         let section = self.section;
@@ -181,7 +140,7 @@ impl State {
 fn own_class(dropped: bool, k: u8) -> u8
     ensures { λ r. ⌜ r ≡ cond dropped k 1 ⌝ }
 {
-    if dropped { k } else { BLANK }
+    if dropped { k } else { codes::BLANK }
 }
 
 // The open group is closed, at a RULE line, which is dropped, or at a blank one.
@@ -204,16 +163,16 @@ fn close(
     match k {
         Kept::Stored(c) => Turn {
             state: s.shut(c, e),
-            class: own_class(dropped, RULE_TAKEN),
-            closed: RULE_TAKEN,
+            class: own_class(dropped, codes::RULE_TAKEN),
+            closed: codes::RULE_TAKEN,
             reason: 0,
             piece: no,
         },
         Kept::Refused(r) => Turn {
             state: s.shut(counts, e),
-            class: own_class(dropped, RULE_REFUSED),
-            closed: RULE_REFUSED,
-            reason: reason_number(r),
+            class: own_class(dropped, codes::RULE_REFUSED),
+            closed: codes::RULE_REFUSED,
+            reason: codes::reason_number(r),
             piece: no,
         },
     }
@@ -221,7 +180,7 @@ fn close(
 
 // A line that does nothing but perhaps set the section.
 fn still(s: State, section: Section, e: usize, class: u8) -> Turn
-    requires { ⌜ s .line < 65536 ⌝ }
+    requires { ⌜ s .line < roomLines ⌝ }
     ensures { λ r. ⌜ r ≡ record { state = movedTo s section (s .counts) e; class = class; closed = 0; reason = 0; piece = 0 } ⌝ }
 {
     let counts = s.counts;
@@ -254,16 +213,16 @@ fn filed(
     match k {
         Kept::Stored(c) => Turn {
             state: s.moved(section, c, e),
-            class: TAKEN,
+            class: codes::TAKEN,
             closed: 0,
             reason: 0,
             piece: s.line + 1,
         },
         Kept::Refused(r) => Turn {
             state: s.moved(section, counts, e),
-            class: REFUSED,
+            class: codes::REFUSED,
             closed: 0,
-            reason: reason_number(r),
+            reason: codes::reason_number(r),
             piece: s.line + 1,
         },
     }
@@ -285,14 +244,14 @@ fn plain(
     if headers::in_rules(section) {
         return Turn {
             state: s.joined(e),
-            class: RULE_OPEN,
+            class: codes::RULE_OPEN,
             closed: 0,
             reason: 0,
             piece: 0,
         };
     }
     if sections::passes_over(section) {
-        return still(s, section, e, PASSED);
+        return still(s, section, e, codes::PASSED);
     }
     filed(text, s, e, cut, words, numbers)
 }
@@ -306,7 +265,7 @@ fn blank(text: &[u8], s: State, e: usize, words: &mut [u64], numbers: &mut [f64]
         return close(text, s, e, false, words, numbers);
     }
     let section = s.section;
-    still(s, section, e, BLANK)
+    still(s, section, e, codes::BLANK)
 }
 
 // Whether a RULE line would close a group.
@@ -353,7 +312,7 @@ fn take_turn(
 {
     match k {
         Sort::Empty => blank(text, s, e, words, numbers),
-        Sort::Heading(x) => still(s, x, e, HEADER),
+        Sort::Heading(x) => still(s, x, e, codes::HEADER),
         Sort::Start => starting(text, s, e, cut, words, numbers),
         Sort::Other => plain(text, s, e, cut, words, numbers),
     }

@@ -13,7 +13,8 @@ use Rattle.lines.specs.Tables.{codeOf, reasonIn, marksIn}
 use Rattle.scope.specs.declared.Counts.{Counts}
 use Rattle.scope.specs.declared.Survey.{Survey}
 use Rattle.scope.specs.Sections.{roomLines}
-use Rattle.scope.specs.Tables.{recordWords, roomWords, roomNumbers, tallyWords}
+use Rattle.scope.specs.Tables.{tallyWords}
+use Rattle.scope.specs.Layout.{recordWords, roomWords, roomNumbers}
 use Rattle.scope.specs.Reading.{byText, noSurvey, surveyOf, surveyNetwork, surveyMarked, tooSmall, surveySmall, surveyAnswer, surveyWords, surveyNumbers, surveyClasses, surveyReasons}
 use Rattle.tables.specs.Table.{splice}
 use Rattle.tables.specs.Holding.{Holds}

@@ -8,18 +8,16 @@ use scope::Reason;
 use scope::Survey;
 
 // The room of the classes and of the reasons.
-const ROOM_LINES: usize = 65536;
-
 fn survey_small(words: &[u64], numbers: &[f64], classes: &[u8], reasons: &[u8]) -> bool
     ensures { λ r. ⌜ r ≡ surveySmall (length (now (words .entry))) (length (now (numbers .entry))) (length (now (classes .entry))) (length (now (reasons .entry))) ⌝ }
 {
     if reading::too_small(words, numbers) {
         return true;
     }
-    if classes.len() < ROOM_LINES {
+    if classes.len() < tables::LINES_ROOM {
         return true;
     }
-    reasons.len() < ROOM_LINES
+    reasons.len() < tables::LINES_ROOM
 }
 
 // SURVEY: every line's class and reason, and how many lines there are of each class.
@@ -44,9 +42,9 @@ pub fn read_survey(
     let r = sweeping::survey_in(
         text,
         &mut words[..tables::RECORD_WORDS],
-        &mut numbers[..tables::NUMBERS],
-        &mut classes[..ROOM_LINES],
-        &mut reasons[..ROOM_LINES],
+        &mut numbers[..tables::NUMBERS_ROOM],
+        &mut classes[..tables::LINES_ROOM],
+        &mut reasons[..tables::LINES_ROOM],
     );
     let counts = r.counts;
     reading::write_counts(words, counts);

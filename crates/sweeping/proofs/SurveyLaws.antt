@@ -11,7 +11,7 @@ use Rattle.lines.specs.Reader.{Mark}
 use Rattle.lines.specs.Tables.{codeOf, reasonIn, marksIn}
 use Rattle.scope.specs.declared.Counts.{Counts}
 use Rattle.scope.specs.declared.Survey.{Survey}
-use Rattle.scope.specs.Sections.{roomLines}
+use Rattle.scope.specs.Sections.{roomLines, roomText}
 use Rattle.scope.specs.Records.{noNetwork, countsOf}
 use Rattle.scope.specs.Reading.{allLow, byText, marksOf, surveyed, surveyOf, noSurvey, surveyNetwork, surveyMarked}
 use Rattle.tables.specs.Holding.{Holds}
@@ -34,14 +34,14 @@ Entered text w f c r a n =
     × (c ≡ marksIn codeOf roomLines (surveyMarked text)) × (r ≡ marksIn reasonIn roomLines (surveyMarked text))
 
 module _ (text : List ℕ) {w : List ℕ} {f : List Float} {c r : List ℕ} {a : Survey} {n : Counts} {nc nr : ℕ} (lc : nc ≡ roomLines) (lr : nr ≡ roomLines) where
-  pub in-long : 65536 < length text → a ≡ noSurvey 20 → n ≡ countsOf noNetwork → Holds text noNetwork (countsOf noNetwork) w f → c ≡ replicate nc 0 → r ≡ replicate nr 0 → Entered text w f c r a n
+  pub in-long : roomText < length text → a ≡ noSurvey 20 → n ≡ countsOf noNetwork → Holds text noNetwork (countsOf noNetwork) w f → c ≡ replicate nc 0 → r ≡ replicate nr 0 → Entered text w f c r a n
   unfolding surveyNetwork surveyMarked
-  in-long h ea en hd zc zr = rw (lt-ltb 65536 (length text) h) (ea, rw en hd, none-in codeOf lc zc, none-in reasonIn lr zr)
+  in-long h ea en hd zc zr = rw (lt-ltb roomText (length text) h) (ea, rw en hd, none-in codeOf lc zc, none-in reasonIn lr zr)
 
-  pub in-high : length text ≤ 65536 → allLow text ≡ false → a ≡ noSurvey 21 → n ≡ countsOf noNetwork → Holds text noNetwork (countsOf noNetwork) w f → c ≡ replicate nc 0 → r ≡ replicate nr 0 → Entered text w f c r a n
+  pub in-high : length text ≤ roomText → allLow text ≡ false → a ≡ noSurvey 21 → n ≡ countsOf noNetwork → Holds text noNetwork (countsOf noNetwork) w f → c ≡ replicate nc 0 → r ≡ replicate nr 0 → Entered text w f c r a n
   unfolding surveyNetwork surveyMarked
-  in-high h k ea en hd zc zr = rw (le-ltb 65536 (length text) h, k) (ea, rw en hd, none-in codeOf lc zc, none-in reasonIn lr zr)
+  in-high h k ea en hd zc zr = rw (le-ltb roomText (length text) h, k) (ea, rw en hd, none-in codeOf lc zc, none-in reasonIn lr zr)
 
-  pub in-all : length text ≤ 65536 → allLow text ≡ true → Overseen text nc nr w f c r a n → Entered text w f c r a n
+  pub in-all : length text ≤ roomText → allLow text ≡ true → Overseen text nc nr w f c r a n → Entered text w f c r a n
   unfolding surveyNetwork surveyMarked
-  in-all h k d = rw (le-ltb 65536 (length text) h, k) (d .0, d .1, d .2 ∙ ap (λ i. marksIn codeOf i (marksOf text)) lc, d .3 ∙ ap (λ i. marksIn reasonIn i (marksOf text)) lr)
+  in-all h k d = rw (le-ltb roomText (length text) h, k) (d .0, d .1, d .2 ∙ ap (λ i. marksIn codeOf i (marksOf text)) lc, d .3 ∙ ap (λ i. marksIn reasonIn i (marksOf text)) lr)

@@ -3,10 +3,10 @@ ghost use mathlib.Core.Path.{_≡_};
 ghost use Prim.Native.Nat.{_≤_};
 ghost use lib.ListN.{length, replicate};
 ghost use Rattle.lines.specs.Tables.{codeOf, reasonIn, marksIn};
-ghost use Rattle.scope.specs.Sections.{roomLines};
+ghost use Rattle.scope.specs.Sections.{roomLines, roomText};
 ghost use Rattle.scope.specs.Answers.{reasonNo};
 ghost use Rattle.scope.specs.Records.{noNetwork, countsOf};
-ghost use Rattle.scope.specs.Tables.{recordWords, roomNumbers};
+ghost use Rattle.scope.specs.Layout.{recordWords, roomNumbers};
 ghost use Rattle.scope.specs.Reading.{byText, marksOf, surveyed, surveyOf, noSurvey, surveyNetwork, surveyMarked};
 ghost use Rattle.tables.specs.Holding.{Holds};
 use scope::Counts;
@@ -23,7 +23,7 @@ pub fn no_survey(why: Reason) -> Survey
     ensures { λ r. ⌜ r ≡ noSurvey (reasonNo why) ⌝ }
 {
     Survey {
-        number: steps::reason_number(why),
+        number: codes::reason_number(why),
         lines: 0,
         blank: 0,
         header: 0,
@@ -45,14 +45,14 @@ fn unsurveyed(why: Reason) -> Surveyed
 }
 
 // Every line, whatever is refused.
-fn go_over(
+fn sweep(
     text: &[u8],
     words: &mut [u64],
     numbers: &mut [f64],
     classes: &mut [u8],
     reasons: &mut [u8],
 ) -> Surveyed
-    requires { ⌜ (length (now text) ≤ 65536) × Holds (now text) noNetwork (countsOf noNetwork) (now words) (now numbers)
+    requires { ⌜ (length (now text) ≤ roomText) × Holds (now text) noNetwork (countsOf noNetwork) (now words) (now numbers)
         × (length (now classes) ≡ roomLines) × (length (now reasons) ≡ roomLines)
         × (now classes ≡ replicate (length (now classes)) 0) × (now reasons ≡ replicate (length (now reasons)) 0) ⌝ }
     ensures { λ r. ⌜ (r .survey ≡ surveyOf (now (text .entry)))
@@ -84,11 +84,11 @@ pub fn survey_in(
     tables::clear_numbers(numbers);
     marks::clear_bytes(classes);
     marks::clear_bytes(reasons);
-    if reading::ROOM_TEXT < text.len() {
+    if tables::TEXT_ROOM < text.len() {
         return unsurveyed(Reason::TooLong);
     }
     if reading::all_low(text) {
-        return go_over(text, words, numbers, classes, reasons);
+        return sweep(text, words, numbers, classes, reasons);
     }
     unsurveyed(Reason::HighByte)
 }

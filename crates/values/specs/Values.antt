@@ -16,7 +16,7 @@ use Rattle.values.specs.declared.ValueRead.the-variants as value
 
 abbrev pub comparisonRead : ComparisonRead → Read Comparison
 comparisonRead (comparison.Known c) = good c
-comparisonRead comparison.Unknown = bad reason.Unknown
+comparisonRead comparison.Unknown = bad reason.UnknownWord
 
 -- `comparisonOf` is its tests for IS and NOT, and then this
 unfoldable pub orderOf : List ℕ → Read Comparison
@@ -24,7 +24,7 @@ orderOf w =
     cond (same w wordAbove || same w signAbove) (good Above)
     (cond (same w wordBelow || same w signBelow) (good Below)
     (cond (same w signAtLeast) (good AtLeast)
-    (cond (same w signAtMost) (good AtMost) (bad reason.Unknown))))
+    (cond (same w signAtMost) (good AtMost) (bad reason.UnknownWord))))
 
 abbrev pub valueRead : ValueRead → Read Value
 valueRead (value.Read v) = good v

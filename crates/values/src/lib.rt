@@ -59,7 +59,7 @@ pub fn read_comparison(w: &[u8]) -> ComparisonRead
         return ComparisonRead::Known(Comparison::Equal);
     }
     if either(w, b"NOT", b"<>") {
-        return ComparisonRead::Known(Comparison::Differs);
+        return ComparisonRead::Known(Comparison::NotEqual);
     }
     order_comparison(w)
 }
@@ -78,7 +78,7 @@ fn seconds_value(n: u64) -> ValueRead
     if n <= 9007199254740992 {
         return ValueRead::Read(Value::Number(n as f64));
     }
-    ValueRead::Refused(Reason::Beyond)
+    ValueRead::Refused(Reason::BeyondReach)
 }
 
 pub fn time_value(time: &[u8], unit: &[u8]) -> ValueRead
@@ -88,8 +88,8 @@ pub fn time_value(time: &[u8], unit: &[u8]) -> ValueRead
     match t {
         Time::Seconds(n) => seconds_value(n),
         Time::Malformed => ValueRead::Refused(Reason::Malformed),
-        Time::Beyond => ValueRead::Refused(Reason::Beyond),
-        Time::UnknownUnit => ValueRead::Refused(Reason::Unknown),
+        Time::Beyond => ValueRead::Refused(Reason::BeyondReach),
+        Time::UnknownUnit => ValueRead::Refused(Reason::UnknownWord),
     }
 }
 
@@ -100,7 +100,7 @@ pub fn number_value(w: &[u8]) -> ValueRead
     match n {
         Number::Value(x) => ValueRead::Read(Value::Number(x)),
         Number::Malformed => ValueRead::Refused(Reason::Malformed),
-        Number::Beyond => ValueRead::Refused(Reason::Beyond),
+        Number::Beyond => ValueRead::Refused(Reason::BeyondReach),
     }
 }
 
@@ -113,7 +113,7 @@ fn status_value(w: &[u8]) -> ValueRead
     if letters::equal(w, b"CLOSED") {
         return ValueRead::Read(Value::Status(LinkStatus::Closed));
     }
-    ValueRead::Refused(Reason::Unknown)
+    ValueRead::Refused(Reason::UnknownWord)
 }
 
 // The value of an action, by its word STATUS or SETTING.
@@ -126,5 +126,5 @@ pub fn deed<'a>(what: &'a [u8], value: &'a [u8]) -> ValueRead
     if letters::equal(what, b"SETTING") {
         return number_value(value);
     }
-    ValueRead::Refused(Reason::Unknown)
+    ValueRead::Refused(Reason::UnknownWord)
 }

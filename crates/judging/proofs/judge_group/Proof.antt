@@ -19,8 +19,8 @@ returns c = λ m cs d w er ec sk. no-id sk m (c .before .before .before .if1 .ta
 letters-of-requires : tie.Need-letters-of-requires
 letters-of-requires c κs = search needs
 
-find-rule-requires : tie.Need-find-rule-requires
-find-rule-requires c κs = (c .before .before .before .before .before .before .before .before .pre .0, c .before .before .before .before .before .before .before .before .pre .1, c .before .before .before .before .before .before .before .before .pre .2)
+find-named-requires : tie.Need-find-named-requires
+find-named-requires c κs = (c .before .before .before .before .before .before .before .before .pre .0, c .before .before .before .before .before .before .before .before .pre .1, c .before .before .before .before .before .before .before .before .pre .2)
 
 enum-told-2 : tie.Need-enum-told-2
 enum-told-2 c = search needs
@@ -29,19 +29,19 @@ enum-told-3 : tie.Need-enum-told-3
 enum-told-3 c = search needs
 
 returns-2 : tie.Need-returns-2
-returns-2 c = λ m cs d w er ec sk. used sk m (c .before .before .before .before .before .before .before .before .if1 .taken) (c .before .before .before .before .before .before .before .if2 .taken) (c .before .before .before .before .before .named .given .0 .0) (c .before .before .before .before .before .named .given .1) (ap (lookup (ruleIds m)) (sym (c .before .before .before .letters-of .ensures)) ∙ sym (c .before .before .find-rule .ensures (withClauses cs m) w er) ∙ c .enum-told3 .given .1)
+returns-2 c = λ m cs d w er ec sk. used sk m (c .before .before .before .before .before .before .before .before .if1 .taken) (c .before .before .before .before .before .before .before .if2 .taken) (c .before .before .before .before .before .named .given .0 .0) (c .before .before .before .before .before .named .given .1) (ap (lookup (ruleIds m)) (sym (c .before .before .before .letters-of .ensures)) ∙ sym (c .before .before .find-named .ensures (withClauses cs m) w er) ∙ c .enum-told3 .given .1)
 
 sub-if4 : tie.Need-sub-if4
 sub-if4 c = omega (arith, c .before .before .before .before .before .before .before .before .before .before .before .before .before .before .pre .3)
 
 returns-3 : tie.Need-returns-3
-returns-3 c = λ m cs d w er ec sk. rule-fits sk m (c .before .before .before .before .before .before .before .before .before .before .before .before .before .if1 .taken) (c .before .before .before .before .before .before .before .before .before .before .before .before .if2 .taken) (c .before .before .before .before .before .before .before .before .before .before .named .given .0 .0) (c .before .before .before .before .before .before .before .before .before .before .named .given .1) (ap (lookup (ruleIds m)) (sym (c .before .before .before .before .before .before .before .before .letters-of .ensures)) ∙ sym (c .before .before .before .before .before .before .before .find-rule .ensures (withClauses cs m) w er) ∙ c .before .before .before .before .before .enum-told2 .given .1) (omega (arith, c .before .before .before .if3 .taken, er)) (omega (arith, c .if4 .taken, ec, sk .long, c .before .before .before .before .before .before .before .before .before .before .before .before .before .before .before .before .pre .3))
+returns-3 c = λ m cs d w er ec sk. rule-fits sk m (c .before .before .before .before .before .before .before .before .before .before .before .before .before .if1 .taken) (c .before .before .before .before .before .before .before .before .before .before .before .before .if2 .taken) (c .before .before .before .before .before .before .before .before .before .before .named .given .0 .0) (c .before .before .before .before .before .before .before .before .before .before .named .given .1) (ap (lookup (ruleIds m)) (sym (c .before .before .before .before .before .before .before .before .letters-of .ensures)) ∙ sym (c .before .before .before .before .before .before .before .find-named .ensures (withClauses cs m) w er) ∙ c .before .before .before .before .before .enum-told2 .given .1) (omega (arith, c .before .before .before .if3 .taken, er)) (omega (arith, c .if4 .taken, ec, sk .long, c .before .before .before .before .before .before .before .before .before .before .before .before .before .before .before .before .pre .3))
 
 returns-4 : tie.Need-returns-4
-returns-4 c = λ m cs d w er ec sk. clauses-full sk m (c .before .before .before .before .before .before .before .before .before .before .before .before .before .if1 .taken) (c .before .before .before .before .before .before .before .before .before .before .before .before .if2 .taken) (c .before .before .before .before .before .before .before .before .before .before .named .given .0 .0) (c .before .before .before .before .before .before .before .before .before .before .named .given .1) (ap (lookup (ruleIds m)) (sym (c .before .before .before .before .before .before .before .before .letters-of .ensures)) ∙ sym (c .before .before .before .before .before .before .before .find-rule .ensures (withClauses cs m) w er) ∙ c .before .before .before .before .before .enum-told2 .given .1) (omega (arith, c .before .before .before .if3 .taken, er)) (omega (arith, c .if4 .left, ec, sk .long, c .before .before .before .before .before .before .before .before .before .before .before .before .before .before .before .before .pre .3))
+returns-4 c = λ m cs d w er ec sk. clauses-full sk m (c .before .before .before .before .before .before .before .before .before .before .before .before .before .if1 .taken) (c .before .before .before .before .before .before .before .before .before .before .before .before .if2 .taken) (c .before .before .before .before .before .before .before .before .before .before .named .given .0 .0) (c .before .before .before .before .before .before .before .before .before .before .named .given .1) (ap (lookup (ruleIds m)) (sym (c .before .before .before .before .before .before .before .before .letters-of .ensures)) ∙ sym (c .before .before .before .before .before .before .before .find-named .ensures (withClauses cs m) w er) ∙ c .before .before .before .before .before .enum-told2 .given .1) (omega (arith, c .before .before .before .if3 .taken, er)) (omega (arith, c .if4 .left, ec, sk .long, c .before .before .before .before .before .before .before .before .before .before .before .before .before .before .before .before .pre .3))
 
 returns-5 : tie.Need-returns-5
-returns-5 c = λ m cs d w er ec sk. rules-full sk m (c .before .before .before .before .before .before .before .before .before .before .if1 .taken) (c .before .before .before .before .before .before .before .before .before .if2 .taken) (c .before .before .before .before .before .before .before .named .given .0 .0) (c .before .before .before .before .before .before .before .named .given .1) (ap (lookup (ruleIds m)) (sym (c .before .before .before .before .before .letters-of .ensures)) ∙ sym (c .before .before .before .before .find-rule .ensures (withClauses cs m) w er) ∙ c .before .before .enum-told2 .given .1) (omega (arith, c .if3 .left, er))
+returns-5 c = λ m cs d w er ec sk. rules-full sk m (c .before .before .before .before .before .before .before .before .before .before .if1 .taken) (c .before .before .before .before .before .before .before .before .before .if2 .taken) (c .before .before .before .before .before .before .before .named .given .0 .0) (c .before .before .before .before .before .before .before .named .given .1) (ap (lookup (ruleIds m)) (sym (c .before .before .before .before .before .letters-of .ensures)) ∙ sym (c .before .before .before .before .find-named .ensures (withClauses cs m) w er) ∙ c .before .before .enum-told2 .given .1) (omega (arith, c .if3 .left, er))
 
 returns-6 : tie.Need-returns-6
 returns-6 c = λ m cs d w er ec sk. no-action sk m (c .before .if1 .taken) (c .if2 .left)
@@ -57,7 +57,7 @@ judge-group-spec =
     enum-told
     returns
     letters-of-requires
-    find-rule-requires
+    find-named-requires
     enum-told-2
     enum-told-3
     returns-2

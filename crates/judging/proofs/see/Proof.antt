@@ -2,7 +2,7 @@
 use mathlib.Core.Path.{_≡_, refl, sym, ap, _∙_, subst}
 use mathlib.Core.List.{List, [], _∷_}
 use Rattle.fields.specs.Fields.{Fits, fieldsAt, nameIn, part}
-use Rattle.rulelines.specs.Lines.{actionIn, saidId, saidRank, saidCondition, saidAction, told, LineFits}
+use Rattle.rulelines.specs.Lines.{actionIn, saidId, saidRank, saidCondition, saidAction, withSaid, LineFits}
 use Rattle.rulelines.specs.declared.LineRead.{LineRead}
 use Rattle.clauses.specs.Clauses.{conditionIn}
 use Rattle.judging.proofs.SeeLaws.{see-id, see-rank, see-condition, see-action}
@@ -32,16 +32,16 @@ enum-known-read-4 : tie.Need-enum-known-read-4
 enum-known-read-4 c = search needs
 
 returns : tie.Need-returns
-returns c = λ text d sk fit. (told (saidId (nameIn text (c .before .read .given .0 .0))) d, rw (c .before .read .given .1), see-id sk (c .before .read .given .0 .0) (subst (λ (x : LineRead). LineFits text x) (c .before .read .given .1) fit))
+returns c = λ text d sk fit. (withSaid (saidId (nameIn text (c .before .read .given .0 .0))) d, rw (c .before .read .given .1), see-id sk (c .before .read .given .0 .0) (subst (λ (x : LineRead). LineFits text x) (c .before .read .given .1) fit))
 
 returns-2 : tie.Need-returns-2
-returns-2 c = λ text d sk fit. (told (saidRank (c .before .read2 .given .0 .0)) d, rw (c .before .read2 .given .1), see-rank sk (c .before .read2 .given .0 .0))
+returns-2 c = λ text d sk fit. (withSaid (saidRank (c .before .read2 .given .0 .0)) d, rw (c .before .read2 .given .1), see-rank sk (c .before .read2 .given .0 .0))
 
 returns-3 : tie.Need-returns-3
-returns-3 c = λ text d sk fit. (told (saidCondition (conditionIn text (c .before .enum-told .given .0 .0))) d, rw (c .before .enum-told .given .1), see-condition sk (conditionIn text (c .before .enum-told .given .0 .0)))
+returns-3 c = λ text d sk fit. (withSaid (saidCondition (conditionIn text (c .before .enum-told .given .0 .0))) d, rw (c .before .enum-told .given .1), see-condition sk (conditionIn text (c .before .enum-told .given .0 .0)))
 
 returns-4 : tie.Need-returns-4
-returns-4 c = λ text d sk fit. (told (saidAction (c .before .before .read3 .given .0 .0 .acting) (c .before .before .read3 .given .0 .0 .otherwise) (actionIn text (c .before .before .read3 .given .0 .0 .action))) d, rw (c .before .before .read3 .given .1), see-action sk (c .before .before .read3 .given .0 .0 .acting) (c .before .before .read3 .given .0 .0 .otherwise) (actionIn text (c .before .before .read3 .given .0 .0 .action)))
+returns-4 c = λ text d sk fit. (withSaid (saidAction (c .before .before .read3 .given .0 .0 .acting) (c .before .before .read3 .given .0 .0 .otherwise) (actionIn text (c .before .before .read3 .given .0 .0 .action))) d, rw (c .before .before .read3 .given .1), see-action sk (c .before .before .read3 .given .0 .0 .acting) (c .before .before .read3 .given .0 .0 .otherwise) (actionIn text (c .before .before .read3 .given .0 .0 .action)))
 
 returns-5 : tie.Need-returns-5
 returns-5 c = λ text d sk fit. rw (c .before .read4 .given .1)

@@ -4,7 +4,7 @@ use mathlib.Core.List.{List}
 use Prim.Native.Nat.{ℕ, _+_, _*_}
 use Rattle.fields.specs.Fields.{optIn}
 use Rattle.tables.specs.Table.{splice}
-use Rattle.tables.specs.Layout.{demandsAt, demandSize}
+use Rattle.scope.specs.Layout.{demandsAt, demandsWidth}
 use Rattle.tables.proofs.SlotLaws.{mark-alike}
 use Rattle.nodes.proofs.StoreLaws.{own-words}
 use borrow.Author.Needs.{needs}
@@ -51,7 +51,7 @@ returns c =
     let a = c .before .before .before .before .before .before .before .before .before .before .before .before .args in
     mark-alike (a .d + 1) (c .before .before .mark .ensures)
     (c .before .before .before .before .before .before .paste-words .ensures
-    ∙ ap (λ (l : List ℕ). splice (now (a .words)) (demandsAt + a .d * demandSize) l) (own-words (c .before .before .before .before .before .before .before .before .before .name-words .result) (a .n) (optIn (now (a .text)) (a .pattern)) (c .before .before .before .before .before .before .before .before .before .name-words .ensures)))
+    ∙ ap (λ (l : List ℕ). splice (now (a .words)) (demandsAt + a .d * demandsWidth) l) (own-words (c .before .before .before .before .before .before .before .before .before .name-words .result) (a .n) (optIn (now (a .text)) (a .pattern)) (c .before .before .before .before .before .before .before .before .before .name-words .ensures)))
     refl
 
 pub put-demand-spec : {M : Type 1} → statement M

@@ -9,7 +9,7 @@ use Rattle.fields.specs.Fields.{nameIn}
 use Rattle.scope.specs.Nodes.{junctionDemand}
 use Rattle.scope.specs.Tables.{marked, slotOf, keyOf}
 use Rattle.tables.specs.Table.{splice}
-use Rattle.tables.specs.Layout.{nodesAt, nodeSize, nodeSlotsAt, demandNumbersAt}
+use Rattle.scope.specs.Layout.{nodesAt, nodesWidth, nodeSlotsAt, demandNumbersAt}
 use Rattle.tables.specs.Adding.{demandAdded}
 use Rattle.nodelines.specs.Lines.{junctionIn}
 use Rattle.nodes.specs.Storing.{newWords}
@@ -66,7 +66,7 @@ returns c =
     let a = s .args in
     let own = junctionDemand (a .n) (junctionIn (now (a .text)) (a .j)) in (
       c .before .before .before .before .before .before .before .before .before .before .before .before .put-demand .ensures
-          ∙ ap (λ (l : List ℕ). demandAdded l (a .d) own) (c .before .before .before .before .before .before .before .before .before .before .before .before .before .before .before .before .put-node .ensures (nameIn (now (a .text)) (a .j .id)) (s .pre .4) ∙ ap (λ (z : ℕ). marked (splice (now (a .words)) (nodesAt + a .n * nodeSize) (newWords (nameIn (now (a .text)) (a .j .id)) 1 none z)) (nodeSlotsAt + slotOf (keyOf (nameIn (now (a .text)) (a .j .id) .letters))) (a .n + 1)) (c .before .before .before .before .before .before .before .before .before .before .before .before .before .before .before .before .before .before .flag-of .ensures)),
+          ∙ ap (λ (l : List ℕ). demandAdded l (a .d) own) (c .before .before .before .before .before .before .before .before .before .before .before .before .before .before .before .before .put-node .ensures (nameIn (now (a .text)) (a .j .id)) (s .pre .4) ∙ ap (λ (z : ℕ). marked (splice (now (a .words)) (nodesAt + a .n * nodesWidth) (newWords (nameIn (now (a .text)) (a .j .id)) 1 none z)) (nodeSlotsAt + slotOf (keyOf (nameIn (now (a .text)) (a .j .id) .letters))) (a .n + 1)) (c .before .before .before .before .before .before .before .before .before .before .before .before .before .before .before .before .before .before .flag-of .ensures)),
       c .before .before .paste-numbers2 .ensures ∙ ap (λ (l : List Float). splice l (demandNumbersAt + a .d) (a .j .demand ∷ [])) (c .before .before .before .before .before .before .before .paste-numbers .ensures),
     )
 

@@ -6,7 +6,7 @@ use lib.ListN.{getD}
 use Rattle.fields.specs.Fields.{optIn}
 use Rattle.scope.specs.Tables.{slotOf}
 use Rattle.tables.specs.Table.{splice}
-use Rattle.tables.specs.Layout.{nodesAt, nodeSize, nodeSlotsAt}
+use Rattle.scope.specs.Layout.{nodesAt, nodesWidth, nodeSlotsAt}
 use Rattle.tables.proofs.SlotLaws.{mark-alike}
 use Rattle.nodes.proofs.StoreLaws.{new-words}
 use borrow.Author.Needs.{needs}
@@ -70,7 +70,7 @@ returns c = λ id e.
     let which = c .before .before .before .before .before .before .before .before .before .before .name-words in
     mark-alike (a .i + 1) (c .before .before .mark .ensures)
     (c .before .before .before .before .before .before .before .paste-words .ensures
-    ∙ ap (λ (l : List ℕ). splice (now (a .words)) (nodesAt + a .i * nodeSize) l) (new-words (a .t3) (which .result) id (a .kind) (optIn (now (a .text)) (a .name)) (a .last) e (which .ensures)))
+    ∙ ap (λ (l : List ℕ). splice (now (a .words)) (nodesAt + a .i * nodesWidth) l) (new-words (a .t3) (which .result) id (a .kind) (optIn (now (a .text)) (a .name)) (a .last) e (which .ensures)))
     (ap (λ (k : ℕ). nodeSlotsAt + k) (c .before .before .before .before .slot-of .ensures ∙ ap (λ (l : List ℕ). slotOf (getD l 2 0)) e))
 
 pub put-node-spec : {M : Type 1} → statement M

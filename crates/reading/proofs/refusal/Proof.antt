@@ -3,7 +3,7 @@ use Rattle.reading.proofs.refusal.Statement.{statement}
 use Rattle.reading.proofs.refusal.Tie as tie
 use Rattle.reading.proofs.refusal.Reads as reads
 use Rattle.reading.proofs.refusal.Lts as lts
-use Rattle.steps.proofs.reason_number.Reads as reason-number-reads
+use Rattle.codes.proofs.reason_number.Reads as reason-number-reads
 
 reason-number-requires : tie.Need-reason-number-requires
 reason-number-requires c κs = search needs

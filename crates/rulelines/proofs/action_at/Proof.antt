@@ -3,11 +3,13 @@ use mathlib.Core.Path.{_≡_, refl, sym, ap, _∙_, subst}
 use denote.Ref.{now}
 use native.Mathlib.Omega.{arith}
 use mathlib.Core.List.{List, [], _∷_}
+use Rattle.scope.specs.Layout.{recordWords}
 use Rattle.fields.specs.Fields.{Fits, fieldsAt, nameIn, part}
 use Prim.Native.Nat.{ℕ, _<_}
 use lib.ListN.{length, getD}
-use Rattle.scope.specs.Records.{Network, linkIds, lookup}
-use Rattle.scope.specs.Rules.{kindFits, noLink}
+use Rattle.scope.specs.Records.{Network, linkIds, lookup, noLink}
+use Rattle.scope.specs.Rules.{kindFits}
+use Rattle.scope.specs.Sections.{roomLinks}
 use Rattle.scope.specs.declared.Found.the-variants.{At}
 use Rattle.tables.specs.Holding.{Words}
 use Rattle.tables.proofs.LookLaws.{found-below}
@@ -20,19 +22,19 @@ use Rattle.rulelines.proofs.action_at.Statement.{statement}
 use Rattle.rulelines.proofs.action_at.Tie as tie
 
 looked : (c : tie.After-known-told) → (m : Network) → Words (now (c .before .before .before .before .before .before .before .before .before .before .args .text)) m (now (c .before .before .before .before .before .before .before .before .before .before .args .words)) → c .before .before .before .before .before .before .before .before .before .before .args .links ≡ length (m .links) → lookup (linkIds m) (part (c .before .before .before .before .before .before .before .before .before .before .args .head .id .at) (c .before .before .before .before .before .before .before .before .before .before .args .head .id .end) (now (c .before .before .before .before .before .before .before .before .before .before .args .l))) ≡ At (c .before .found .given .0 .0)
-looked c = λ m w e. ap (lookup (linkIds m)) (sym (c .before .before .before .before .letters-of .ensures)) ∙ sym (c .before .before .before .find-link .ensures m w e) ∙ c .before .found .given .1
+looked c = λ m w e. ap (lookup (linkIds m)) (sym (c .before .before .before .before .letters-of .ensures)) ∙ sym (c .before .before .before .find-named .ensures m w e) ∙ c .before .found .given .1
 
 below : (c : tie.After-known-told) → (m : Network) → Words (now (c .before .before .before .before .before .before .before .before .before .before .args .text)) m (now (c .before .before .before .before .before .before .before .before .before .before .args .words)) → c .before .before .before .before .before .before .before .before .before .before .args .links ≡ length (m .links) → (c .before .found .given .0 .0) < length (m .links)
 below c = λ m w e. omega (arith, found-below (linkIds m) _ (looked c m w e), link-count m)
 
-safe : (c : tie.After-known-told) → ((c .before .found .given .0 .0) < 256) × (length (now (c .before .before .before .before .before .before .before .before .before .before .args .words)) ≡ 17128)
+safe : (c : tie.After-known-told) → ((c .before .found .given .0 .0) < roomLinks) × (length (now (c .before .before .before .before .before .before .before .before .before .before .args .words)) ≡ recordWords)
 safe c = (omega (arith, below c (c .before .before .before .before .before .before .before .before .before .before .pre .0) (c .before .before .before .before .before .before .before .before .before .before .pre .1) (c .before .before .before .before .before .before .before .before .before .before .pre .2), c .before .before .before .before .before .before .before .before .before .before .pre .1 .known .links .bound), words-long (c .before .before .before .before .before .before .before .before .before .before .pre .1))
 
 letters-of-requires : tie.Need-letters-of-requires
 letters-of-requires c κs = search needs
 
-find-link-requires : tie.Need-find-link-requires
-find-link-requires c κs = c .before .before .before .before .before .before .pre
+find-named-requires : tie.Need-find-named-requires
+find-named-requires c κs = c .before .before .before .before .before .before .pre
 
 enum-known-found : tie.Need-enum-known-found
 enum-known-found c = search needs
@@ -41,7 +43,7 @@ enum-told : tie.Need-enum-told
 enum-told c = search needs
 
 returns : tie.Need-returns
-returns c = (λ m w e. rw (ap (lookup (linkIds m)) (sym (c .before .before .before .letters-of .ensures)) ∙ sym (c .before .before .find-link .ensures m w e) ∙ c .enum-told .given .1), λ fit. tt)
+returns c = (λ m w e. rw (ap (lookup (linkIds m)) (sym (c .before .before .before .letters-of .ensures)) ∙ sym (c .before .before .find-named .ensures m w e) ∙ c .enum-told .given .1), λ fit. tt)
 
 is-pipe-requires : tie.Need-is-pipe-requires
 is-pipe-requires c κs = safe c
@@ -81,7 +83,7 @@ action-at-spec =
     tie.close
     (tie.spec
     letters-of-requires
-    find-link-requires
+    find-named-requires
     enum-known-found
     enum-told
     returns

@@ -5,7 +5,7 @@ use Rattle.clauses.specs.Clauses.{optIn}
 use Prim.Native.Nat.{ℕ, _+_, _*_}
 use mathlib.Core.List.{List}
 use Rattle.tables.specs.Table.{splice}
-use Rattle.tables.specs.Layout.{clausesAt, clauseSize}
+use Rattle.scope.specs.Layout.{clausesAt, clausesWidth}
 use Rattle.rules.proofs.GroupLaws.{name-row}
 use borrow.Author.Needs.{needs}
 use Rattle.rules.proofs.put_clause.Statement.{statement}
@@ -54,7 +54,7 @@ same-length-2 : tie.Need-same-length-2
 same-length-2 c = search needs
 
 returns : tie.Need-returns
-returns c = (c .before .before .before .before .before .before .before .paste-words .ensures ∙ ap (λ (l : List ℕ). splice (now (c .before .before .before .before .before .before .before .before .before .before .before .before .before .before .before .before .args .words)) (clausesAt + c .before .before .before .before .before .before .before .before .before .before .before .before .before .before .before .before .args .n * clauseSize) l) (name-row (c .before .before .before .before .before .before .before .before .before .before .before .before .before .before .before .before .args .kind) (c .before .before .before .before .before .before .before .before .before .before .before .before .before .before .before .before .args .one) (c .before .before .before .before .before .before .before .before .before .before .before .before .before .before .before .before .args .two) (c .before .before .before .before .before .before .before .before .before .before .before .before .before .before .before .before .args .three) _ _ (c .before .before .before .before .before .before .before .before .before .before .before .before .name-words .result) (optIn (now (c .before .before .before .before .before .before .before .before .before .before .before .before .before .before .before .before .args .text)) (c .before .before .before .before .before .before .before .before .before .before .before .before .before .before .before .before .args .name)) (c .before .before .before .before .before .before .before .before .before .before .before .value-word .ensures) (c .before .before .before .before .before .before .before .before .before .before .before .before .name-words .ensures)), c .before .before .paste-numbers .ensures ∙ rw (c .before .before .before .before .before .before .before .before .before .before .value-number .ensures))
+returns c = (c .before .before .before .before .before .before .before .paste-words .ensures ∙ ap (λ (l : List ℕ). splice (now (c .before .before .before .before .before .before .before .before .before .before .before .before .before .before .before .before .args .words)) (clausesAt + c .before .before .before .before .before .before .before .before .before .before .before .before .before .before .before .before .args .n * clausesWidth) l) (name-row (c .before .before .before .before .before .before .before .before .before .before .before .before .before .before .before .before .args .kind) (c .before .before .before .before .before .before .before .before .before .before .before .before .before .before .before .before .args .one) (c .before .before .before .before .before .before .before .before .before .before .before .before .before .before .before .before .args .two) (c .before .before .before .before .before .before .before .before .before .before .before .before .before .before .before .before .args .three) _ _ (c .before .before .before .before .before .before .before .before .before .before .before .before .name-words .result) (optIn (now (c .before .before .before .before .before .before .before .before .before .before .before .before .before .before .before .before .args .text)) (c .before .before .before .before .before .before .before .before .before .before .before .before .before .before .before .before .args .name)) (c .before .before .before .before .before .before .before .before .before .before .before .value-word .ensures) (c .before .before .before .before .before .before .before .before .before .before .before .before .name-words .ensures)), c .before .before .paste-numbers .ensures ∙ rw (c .before .before .before .before .before .before .before .before .before .before .value-number .ensures))
 
 pub put-clause-spec : {M : Type 1} → statement M
 put-clause-spec =

@@ -5,7 +5,7 @@ use Prim.Native.Nat.{ℕ, _+_, _*_}
 use mathlib.Core.List.{List}
 use Rattle.fields.specs.Fields.{nameIn}
 use Rattle.tables.specs.Table.{splice}
-use Rattle.tables.specs.Layout.{rulesAt, ruleSize}
+use Rattle.scope.specs.Layout.{rulesAt, rulesWidth}
 use Rattle.judging.specs.Sketches.{rankIn}
 use Rattle.rules.proofs.GroupLaws.{rule-row}
 use borrow.Author.Needs.{needs}
@@ -49,7 +49,7 @@ same-length : tie.Need-same-length
 same-length c = search needs
 
 returns : tie.Need-returns
-returns c = c .before .before .paste-words .ensures ∙ ap (λ (l : List ℕ). splice (now (c .before .before .before .before .before .before .before .before .before .before .args .words)) (rulesAt + c .before .before .before .before .before .before .before .before .before .before .args .s .rules * ruleSize) l) (rule-row (c .before .before .before .before .before .before .before .id-words .result) (c .before .before .before .before .before .before .rank-words .result) (c .before .before .before .before .before .before .before .before .before .before .args .s .clauses) (c .before .before .before .before .before .before .before .before .before .before .args .q .clauses) (nameIn (now (c .before .before .before .before .before .before .before .before .before .before .args .text)) (c .before .before .before .before .before .before .before .before .before .before .args .id)) (rankIn (c .before .before .before .before .before .before .before .before .before .before .args .q .ranked) (c .before .before .before .before .before .before .before .before .before .before .args .q .priority)) (c .before .before .before .before .before .before .before .id-words .ensures) (c .before .before .before .before .before .before .rank-words .ensures))
+returns c = c .before .before .paste-words .ensures ∙ ap (λ (l : List ℕ). splice (now (c .before .before .before .before .before .before .before .before .before .before .args .words)) (rulesAt + c .before .before .before .before .before .before .before .before .before .before .args .s .rules * rulesWidth) l) (rule-row (c .before .before .before .before .before .before .before .id-words .result) (c .before .before .before .before .before .before .rank-words .result) (c .before .before .before .before .before .before .before .before .before .before .args .s .clauses) (c .before .before .before .before .before .before .before .before .before .before .args .q .clauses) (nameIn (now (c .before .before .before .before .before .before .before .before .before .before .args .text)) (c .before .before .before .before .before .before .before .before .before .before .args .id)) (rankIn (c .before .before .before .before .before .before .before .before .before .before .args .q .ranked) (c .before .before .before .before .before .before .before .before .before .before .args .q .priority)) (c .before .before .before .before .before .before .before .id-words .ensures) (c .before .before .before .before .before .before .rank-words .ensures))
 
 pub put-rule-spec : {M : Type 1} → statement M
 put-rule-spec =

@@ -7,7 +7,7 @@ use Rattle.steps.proofs.close.Reads as reads
 use Rattle.steps.proofs.close.Lts as lts
 use Rattle.steps.proofs.State.shut.Reads as shut-reads
 use Rattle.steps.proofs.own_class.Reads as own-class-reads
-use Rattle.steps.proofs.reason_number.Reads as reason-number-reads
+use Rattle.codes.proofs.reason_number.Reads as reason-number-reads
 use Rattle.rules.proofs.close_group.Reads as close-group-reads
 
 close-group-requires : tie.Need-close-group-requires

@@ -11,7 +11,7 @@ use Rattle.steps.proofs.filed.Reads as reads
 use Rattle.steps.proofs.filed.Lts as lts
 use Rattle.sections.proofs.store_line.Reads as store-line-reads
 use Rattle.steps.proofs.State.moved.Reads as moved-reads
-use Rattle.steps.proofs.reason_number.Reads as reason-number-reads
+use Rattle.codes.proofs.reason_number.Reads as reason-number-reads
 
 store-line-requires : tie.Need-store-line-requires
 store-line-requires c κs =

@@ -3,7 +3,7 @@ use mathlib.Core.Path.{sym, _∙_}
 use lib.Seq.{length-take-le}
 use denote.Ref.{now}
 use Rattle.scans.proofs.LineLaws.{end-le}
-use Rattle.steps.proofs.WayLaws.{told, plain-told, way-told}
+use Rattle.steps.proofs.WayLaws.{at-once-told, plain-told, way-told}
 use borrow.Author.Needs.{needs}
 use Rattle.steps.proofs.step.Statement.{statement}
 use Rattle.steps.proofs.step.Tie as tie
@@ -28,7 +28,7 @@ filed-requires : tie.Need-filed-requires
 filed-requires c κs =
     let q = c .before .before .before .before .before .before .before .before .before .pre in
     let z = c .before .before .before .before .before .line-ends .ensures in
-    let t = told q (z .0) (sym (c .before .before .before .is-filed .ensures) ∙ c .before .before .if1 .taken) in (q, z .0, z .1, plain-told q (z .0) (sym (c .before .before .before .is-filed .ensures) ∙ c .before .before .if1 .taken), t .1, t .2)
+    let t = at-once-told q (z .0) (sym (c .before .before .before .is-filed .ensures) ∙ c .before .before .if1 .taken) in (q, z .0, z .1, plain-told q (z .0) (sym (c .before .before .before .is-filed .ensures) ∙ c .before .before .if1 .taken), t .1, t .2)
 
 same-length : tie.Need-same-length
 same-length c = search needs

@@ -3,6 +3,7 @@ use borrow.Author.Tests.{lt-ltb, le-ltb}
 use denote.Ref.{now}
 use lib.ListN.{length}
 use Rattle.scope.specs.Reading.{surveySmall}
+use Rattle.scope.specs.Sections.{roomLines}
 use borrow.Author.Needs.{needs}
 use Rattle.surveying.proofs.survey_small.Statement.{statement}
 use Rattle.surveying.proofs.survey_small.Tie as tie
@@ -19,11 +20,11 @@ returns c = rw (sym (c .before .too-small .ensures) ∙ c .if1 .taken)
 
 returns-2 : tie.Need-returns-2
 unfolding surveySmall
-returns-2 c = rw (sym (c .before .before .too-small .ensures) ∙ c .before .if1 .left, lt-ltb (length (now (c .before .before .before .before .before .before .before .args .classes))) 65536 (c .if2 .taken))
+returns-2 c = rw (sym (c .before .before .too-small .ensures) ∙ c .before .if1 .left, lt-ltb (length (now (c .before .before .before .before .before .before .before .args .classes))) roomLines (c .if2 .taken))
 
 returns-3 : tie.Need-returns-3
 unfolding surveySmall
-returns-3 c = rw (sym (c .before .before .too-small .ensures) ∙ c .before .if1 .left, le-ltb (length (now (c .before .before .before .before .before .before .before .args .classes))) 65536 (c .if2 .left))
+returns-3 c = rw (sym (c .before .before .too-small .ensures) ∙ c .before .if1 .left, le-ltb (length (now (c .before .before .before .before .before .before .before .args .classes))) roomLines (c .if2 .left))
 
 pub survey-small-spec : {M : Type 1} → statement M
 survey-small-spec =

@@ -3,7 +3,7 @@ use Rattle.sweeping.proofs.no_survey.Statement.{statement}
 use Rattle.sweeping.proofs.no_survey.Tie as tie
 use Rattle.sweeping.proofs.no_survey.Reads as reads
 use Rattle.sweeping.proofs.no_survey.Lts as lts
-use Rattle.steps.proofs.reason_number.Reads as reason-number-reads
+use Rattle.codes.proofs.reason_number.Reads as reason-number-reads
 
 reason-number-requires : tie.Need-reason-number-requires
 reason-number-requires c κs = search needs

@@ -11,7 +11,7 @@ use Rattle.sweeping.proofs.survey_in.Reads as reads
 use Rattle.sweeping.proofs.survey_in.Lts as lts
 use Rattle.reading.proofs.all_low.Reads as all-low-reads
 use Rattle.marks.proofs.clear_bytes.Reads as clear-bytes-reads
-use Rattle.sweeping.proofs.go_over.Reads as go-over-reads
+use Rattle.sweeping.proofs.sweep.Reads as sweep-reads
 use Rattle.sweeping.proofs.unsurveyed.Reads as unsurveyed-reads
 use Rattle.tables.proofs.clear_numbers.Reads as clear-numbers-reads
 use Rattle.tables.proofs.clear_words.Reads as clear-words-reads
@@ -49,8 +49,8 @@ returns c = in-long (now (c .before .before .before .before .before .before .bef
 all-low-requires : tie.Need-all-low-requires
 all-low-requires c κs = search needs
 
-go-over-requires : tie.Need-go-over-requires
-go-over-requires c κs = (
+sweep-requires : tie.Need-sweep-requires
+sweep-requires c κs = (
   c .before .before .before .before .before .before .if1 .left,
   cleared (now (c .before .before .before .before .before .before .before .before .before .before .before .before .before .before .before .before .before .before .before .before .before .before .before .before .before .before .before .before .args .text)) (now (c .before .before .before .before .before .before .before .before .before .before .before .before .before .before .before .before .before .before .before .before .before .before .before .before .before .before .before .before .args .words)) (now (c .before .before .before .before .before .before .before .before .before .before .before .before .before .before .before .before .before .before .before .before .before .before .before .before .before .before .before .before .args .numbers)) (c .before .before .before .before .before .before .before .before .before .before .before .before .before .before .before .before .before .before .before .before .before .before .before .before .before .before .before .before .pre .0) (c .before .before .before .before .before .before .before .before .before .before .before .before .before .before .before .before .before .before .before .before .before .before .before .before .before .before .before .before .pre .1) (c .before .before .before .before .before .before .before .before .before .before .before .before .before .before .before .before .before .before .before .before .before .clear-words .ensures) (c .before .before .before .before .before .before .before .before .before .before .before .before .before .before .before .before .before .clear-numbers .ensures),
   c .before .before .before .before .before .before .before .before .before .before .before .before .before .clear-bytes .kept .0 ∙ c .before .before .before .before .before .before .before .before .before .before .before .before .before .before .before .before .before .before .before .before .before .before .before .before .before .before .before .before .pre .2,
@@ -60,19 +60,19 @@ go-over-requires c κs = (
 )
 
 same-length-5 : tie.Need-same-length-5
-same-length-5 c = c .before .before .before .before .before .before .before .before .go-over .kept .1 .0 ∙ c .before .before .before .before .before .before .before .before .before .before .before .before .before .before .before .before .before .before .before .before .before .before .before .before .before .before .before .before .before .before .clear-words .kept .0
+same-length-5 c = c .before .before .before .before .before .before .before .before .sweep .kept .1 .0 ∙ c .before .before .before .before .before .before .before .before .before .before .before .before .before .before .before .before .before .before .before .before .before .before .before .before .before .before .before .before .before .before .clear-words .kept .0
 
 same-length-6 : tie.Need-same-length-6
-same-length-6 c = c .before .before .before .before .before .before .before .before .go-over .kept .1 .1 .0 ∙ c .before .before .before .before .before .before .before .before .before .before .before .before .before .before .before .before .before .before .before .before .before .before .before .before .before .before .clear-numbers .kept .0
+same-length-6 c = c .before .before .before .before .before .before .before .before .sweep .kept .1 .1 .0 ∙ c .before .before .before .before .before .before .before .before .before .before .before .before .before .before .before .before .before .before .before .before .before .before .before .before .before .before .clear-numbers .kept .0
 
 same-length-7 : tie.Need-same-length-7
-same-length-7 c = c .before .before .before .before .before .before .before .before .go-over .kept .1 .1 .1 .0 ∙ c .before .before .before .before .before .before .before .before .before .before .before .before .before .before .before .before .before .before .before .before .before .before .clear-bytes .kept .0
+same-length-7 c = c .before .before .before .before .before .before .before .before .sweep .kept .1 .1 .1 .0 ∙ c .before .before .before .before .before .before .before .before .before .before .before .before .before .before .before .before .before .before .before .before .before .before .clear-bytes .kept .0
 
 same-length-8 : tie.Need-same-length-8
-same-length-8 c = c .before .before .before .before .before .before .before .before .go-over .kept .1 .1 .1 .1 .0 ∙ c .before .before .before .before .before .before .before .before .before .before .before .before .before .before .before .before .before .before .clear-bytes2 .kept .0
+same-length-8 c = c .before .before .before .before .before .before .before .before .sweep .kept .1 .1 .1 .1 .0 ∙ c .before .before .before .before .before .before .before .before .before .before .before .before .before .before .before .before .before .before .clear-bytes2 .kept .0
 
 returns-2 : tie.Need-returns-2
-returns-2 c = in-all (now (c .before .before .before .before .before .before .before .before .before .before .before .before .before .before .before .before .before .before .before .before .before .before .before .before .before .before .before .before .before .before .before .before .before .before .before .before .before .args .text)) refl refl (c .before .before .before .before .before .before .before .before .before .before .before .before .before .before .before .if1 .left) (sym (c .before .before .before .before .before .before .before .before .before .before .before .before .before .before .all-low .ensures) ∙ c .before .before .before .before .before .before .before .before .before .before .before .before .before .if2 .taken) (c .before .before .before .before .before .before .before .before .go-over .ensures)
+returns-2 c = in-all (now (c .before .before .before .before .before .before .before .before .before .before .before .before .before .before .before .before .before .before .before .before .before .before .before .before .before .before .before .before .before .before .before .before .before .before .before .before .before .args .text)) refl refl (c .before .before .before .before .before .before .before .before .before .before .before .before .before .before .before .if1 .left) (sym (c .before .before .before .before .before .before .before .before .before .before .before .before .before .before .all-low .ensures) ∙ c .before .before .before .before .before .before .before .before .before .before .before .before .before .if2 .taken) (c .before .before .before .before .before .before .before .before .sweep .ensures)
 
 unsurveyed-requires-2 : tie.Need-unsurveyed-requires-2
 unsurveyed-requires-2 c κs = search needs
@@ -107,7 +107,7 @@ survey-in-spec =
     same-length-4
     returns
     all-low-requires
-    go-over-requires
+    sweep-requires
     same-length-5
     same-length-6
     same-length-7

@@ -1,10 +1,10 @@
--- `sweeping::go_over` meets its contract. Assumes nothing.
+-- `sweeping::sweep` meets its contract. Assumes nothing.
 use mathlib.Core.Path.{refl, _∙_}
 use borrow.Author.Needs.{needs}
-use Rattle.sweeping.proofs.go_over.Statement.{statement}
-use Rattle.sweeping.proofs.go_over.Tie as tie
-use Rattle.sweeping.proofs.go_over.Reads as reads
-use Rattle.sweeping.proofs.go_over.Lts as lts
+use Rattle.sweeping.proofs.sweep.Statement.{statement}
+use Rattle.sweeping.proofs.sweep.Tie as tie
+use Rattle.sweeping.proofs.sweep.Reads as reads
+use Rattle.sweeping.proofs.sweep.Lts as lts
 use Rattle.going.proofs.go_over.Reads as go-over-reads
 use Rattle.marks.proofs.counts_of.Reads as counts-of-reads
 
@@ -29,8 +29,8 @@ same-length-4 c = search needs
 returns : tie.Need-returns
 returns c = let p = c .before .before .before .before .before .before .before .before .before .before .before .go-over .ensures .1 refl in (c .counts-of .ensures ∙ p .0, p .1, p .2, p .3)
 
-pub go-over-spec : {M : Type 1} → statement M
-go-over-spec =
+pub sweep-spec : {M : Type 1} → statement M
+sweep-spec =
     tie.close
     (tie.spec
     go-over-requires
