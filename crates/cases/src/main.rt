@@ -3,57 +3,59 @@
 // its status (1 OPEN, 2 CLOSED, 0 where it is a setting).
 use fields::Span;
 use printing::count;
+use printing::flag;
 use printing::newline;
-use printing::records;
-use printing::word;
 use printing::write;
+use scope::Action;
+use stored::Clause;
 
-const ROOM_WORDS: usize = 17137;
-
-const ROOM_NUMBERS: usize = 8192;
-
-fn show_records(words: &[u64]) {
+fn show_records(words: &[u64], numbers: &[f64]) {
+    let counts = storedcounts::counts_at(words);
+    let all = counts.clauses;
     write(b"records");
-    count(records(words, 0) as u64);
-    count(records(words, 1) as u64);
-    count(records(words, 2) as u64);
-    count(records(words, 4) as u64);
-    count(records(words, 7) as u64);
-    count(printing::clauses(words, 1));
-    count(printing::clauses(words, 2));
+    count(counts.nodes as u64);
+    count(counts.links as u64);
+    count(counts.curves as u64);
+    count(counts.patterns as u64);
+    count(counts.rules as u64);
+    count(parts::conditions_between(words, numbers, 0, all) as u64);
+    count(parts::actions_between(words, numbers, 0, all) as u64);
     newline();
 }
 
-fn show_action(words: &[u64], row: usize) {
-    if word(words, row, 0) == 2 {
-        write(b"do");
-        count(word(words, row, 1));
-        count(word(words, row, 2));
-        count(word(words, row, 4));
-        newline();
-    }
+fn show_action(a: Action) {
+    let value = a.value;
+    write(b"do");
+    flag(a.otherwise);
+    count(a.link as u64);
+    count(codes::value_word(value));
+    newline();
 }
 
-fn show_actions(words: &[u64]) {
-    let all = records(words, 8);
+fn show_actions(words: &[u64], numbers: &[f64]) {
+    let counts = storedcounts::counts_at(words);
+    let all = counts.clauses;
     let mut k = 0;
     while k < all {
-        show_action(words, printing::clause_row(k));
+        let clause = stored::clause_at(words, numbers, k);
+        if let Clause::Action(a) = clause {
+            show_action(a);
+        }
         k += 1;
     }
 }
 
 fn show_case(text: &[u8]) {
-    let mut words = [0u64; ROOM_WORDS];
-    let mut numbers = [0.0f64; ROOM_NUMBERS];
+    let mut words = [0u64; tables::WORDS_ROOM];
+    let mut numbers = [0.0f64; tables::NUMBERS_ROOM];
     let a = reading::read_strict(text, &mut words, &mut numbers);
     write(b"answer");
     count(a.number as u64);
     write(b" line");
     count(a.line as u64);
     newline();
-    show_records(&words);
-    show_actions(&words);
+    show_records(&words, &numbers);
+    show_actions(&words, &numbers);
 }
 
 // The text from `at` up to `end`; before the first title there is none.

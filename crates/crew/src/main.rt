@@ -1,44 +1,36 @@
 // The crew sheet: how often the rules close, open, activate and set links, by rule and by link, under THEN and under ELSE. What is refused is said first.
 ghost use Prim.Native.Nat.{_≤_};
+ghost use Rattle.scope.specs.Sections.{roomLines};
 use actions::Moves;
 use input::Input;
+use parts::one_if;
 use printing::decimal;
 use printing::newline;
-use printing::one_if;
 use printing::write;
 use scope::Survey;
-
-const ROOM_WORDS: usize = 17137;
-
-const ROOM_NUMBERS: usize = 8192;
-
-const ROOM_LINES: usize = 65536;
-
-// One byte more than is read, so that a longer text is seen to be longer.
-const ROOM_TEXT: usize = 65537;
 
 // ---- whether the sheet is whole
 
 // A refused line has a reason, and so has the first line of a refused rule.
-fn refused(reasons: &[u8; ROOM_LINES]) -> u64
-    ensures { λ r. ⌜ r ≤ 65536 ⌝ }
+fn refused(reasons: &[u8; tables::LINES_ROOM]) -> usize
+    ensures { λ r. ⌜ r ≤ roomLines ⌝ }
 {
     let mut n = 0;
-    for i in 0..ROOM_LINES {
+    for i in 0..tables::LINES_ROOM {
         n += one_if(reasons[i] != 0);
     }
     n
 }
 
 // The lines and rules that are refused, and the rule that is open at the end.
-fn missing_pieces(s: Survey, reasons: &[u8; ROOM_LINES]) -> u64 {
+fn missing_pieces(s: Survey, reasons: &[u8; tables::LINES_ROOM]) -> usize {
     refused(reasons) + one_if(s.ruleopen != 0)
 }
 
-fn warn(missing: u64) {
+fn warn(missing: usize) {
     if missing != 0 {
         write(b"NOT WHOLE: ");
-        decimal(missing);
+        decimal(missing as u64);
         write(b" REFUSED OR STILL OPEN. DO NOT PRICE FROM THIS SHEET.\n");
     }
 }
@@ -83,7 +75,7 @@ fn heading(of: &[u8]) {
 // ---- by rule
 
 // The number of the line that has the byte at `at`.
-fn line_of(text: &[u8], at: usize) -> u64 {
+fn line_of(text: &[u8], at: usize) -> usize {
     let before = letters::cut(text, 0, at);
     let mut n = 0;
     let mut k = 0;
@@ -104,7 +96,7 @@ fn show_rule(text: &[u8], words: &[u64], numbers: &[f64], i: usize) {
     write(b"  rule ");
     printing::plain(fields::letters_of(text, id));
     write(b", which starts at line ");
-    decimal(line_of(text, id.at));
+    decimal(line_of(text, id.at) as u64);
     newline();
 }
 
@@ -222,7 +214,7 @@ fn show_sheet(text: &[u8], words: &[u64], numbers: &[f64]) {
     show_made(words, numbers);
 }
 
-fn show_warned(text: &[u8], words: &[u64], numbers: &[f64], missing: u64) {
+fn show_warned(text: &[u8], words: &[u64], numbers: &[f64], missing: usize) {
     warn(missing);
     show_sheet(text, words, numbers);
     warn(missing);
@@ -231,10 +223,10 @@ fn show_warned(text: &[u8], words: &[u64], numbers: &[f64], missing: u64) {
 // ---- the program
 
 fn show(text: &[u8]) {
-    let mut words = [0u64; ROOM_WORDS];
-    let mut numbers = [0.0f64; ROOM_NUMBERS];
-    let mut classes = [0u8; ROOM_LINES];
-    let mut reasons = [0u8; ROOM_LINES];
+    let mut words = [0u64; tables::WORDS_ROOM];
+    let mut numbers = [0.0f64; tables::NUMBERS_ROOM];
+    let mut classes = [0u8; tables::LINES_ROOM];
+    let mut reasons = [0u8; tables::LINES_ROOM];
     let s = surveying::read_survey(text, &mut words, &mut numbers, &mut classes, &mut reasons);
     explain::show_survey(text, s, &classes, &reasons);
     if s.number == 0 {
@@ -266,7 +258,7 @@ fn show_help() {
 }
 
 fn run() {
-    let mut buffer = [0u8; ROOM_TEXT];
+    let mut buffer = [0u8; input::TEXT_ROOM];
     let read = input::read_argument(b"crew", 1, &mut buffer);
     if let Input::Read(n) = read {
         show(letters::cut(&buffer, 0, n));

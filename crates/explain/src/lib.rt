@@ -97,16 +97,16 @@ fn open_rule(number: usize, line: &[u8]) {
     quoted(line);
 }
 
-// A line of class 5 is refused by itself, one of class 7 as the first of a rule. Class 8 is a rule that is still open: `is_open` says that its first line was met.
+// A line is refused by itself or as the first of a rule. Of a rule that is still open `is_open` says that its first line was met.
 fn show_line(number: usize, class: u8, reason: u8, is_open: bool, line: &[u8]) -> bool {
-    if class == 8 {
+    if class == codes::RULE_OPEN {
         if !is_open {
             open_rule(number, line);
         }
         return true;
     }
     if reason != 0 {
-        if class == 7 {
+        if class == codes::RULE_REFUSED {
             refused_rule(number, reason, line);
         } else {
             refused_line(number, reason, line);
@@ -116,10 +116,10 @@ fn show_line(number: usize, class: u8, reason: u8, is_open: bool, line: &[u8]) -
 }
 
 // Every refusal, by rising line.
-fn show_lines(text: &[u8], classes: &[u8; 65536], reasons: &[u8; 65536]) {
+fn show_lines(text: &[u8], classes: &[u8; tables::LINES_ROOM], reasons: &[u8; tables::LINES_ROOM]) {
     let mut is_open = false;
     let mut at = 0;
-    for i in 0..65536 {
+    for i in 0..tables::LINES_ROOM {
         let end = scans::line_end(text, at);
         let line = fields::letters_of(text, Span { at, end });
         is_open = show_line(i + 1, classes[i], reasons[i], is_open, line);
@@ -138,7 +138,12 @@ fn is_clean(s: Survey) -> bool {
 }
 
 // What a survey refused: the text as a whole, or lines and rules.
-pub fn show_survey(text: &[u8], s: Survey, classes: &[u8; 65536], reasons: &[u8; 65536]) {
+pub fn show_survey(
+    text: &[u8],
+    s: Survey,
+    classes: &[u8; tables::LINES_ROOM],
+    reasons: &[u8; tables::LINES_ROOM],
+) {
     if s.number != 0 {
         whole_text(s.number);
         return;

@@ -2,6 +2,9 @@
 use libc::STDERR_FILENO;
 use libc::STDIN_FILENO;
 
+// A program's room for a text: one byte more than a reading takes, so that a longer text is seen to be longer.
+pub const TEXT_ROOM: usize = tables::TEXT_ROOM + 1;
+
 // How many bytes were read, or that they could not be.
 pub enum Input {
     Read(usize),

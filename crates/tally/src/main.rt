@@ -2,29 +2,21 @@
 use input::Input;
 use printing::count;
 use printing::newline;
-use printing::records;
 use printing::write;
 use scope::Survey;
 
-const ROOM_WORDS: usize = 17137;
-
-const ROOM_NUMBERS: usize = 8192;
-
-const ROOM_LINES: usize = 65536;
-
-// One byte more than is read, so that a longer text is seen to be longer.
-const ROOM_TEXT: usize = 65537;
-
-fn show_records(words: &[u64]) {
+fn show_records(words: &[u64], numbers: &[f64]) {
+    let counts = storedcounts::counts_at(words);
+    let all = counts.clauses;
     write(b"records");
-    count(records(words, 0) as u64);
-    count(records(words, 1) as u64);
-    count(records(words, 2) as u64);
-    count(records(words, 4) as u64);
-    count(records(words, 7) as u64);
+    count(counts.nodes as u64);
+    count(counts.links as u64);
+    count(counts.curves as u64);
+    count(counts.patterns as u64);
+    count(counts.rules as u64);
     write(b"\nclauses");
-    count(printing::clauses(words, 1));
-    count(printing::clauses(words, 2));
+    count(parts::conditions_between(words, numbers, 0, all) as u64);
+    count(parts::actions_between(words, numbers, 0, all) as u64);
     newline();
 }
 
@@ -61,10 +53,10 @@ fn show_refusals(reasons: &[u8]) {
 
 // What the survey says of the text: in counts, or in words.
 fn show(text: &[u8], in_words: bool) {
-    let mut words = [0u64; ROOM_WORDS];
-    let mut numbers = [0.0f64; ROOM_NUMBERS];
-    let mut classes = [0u8; ROOM_LINES];
-    let mut reasons = [0u8; ROOM_LINES];
+    let mut words = [0u64; tables::WORDS_ROOM];
+    let mut numbers = [0.0f64; tables::NUMBERS_ROOM];
+    let mut classes = [0u8; tables::LINES_ROOM];
+    let mut reasons = [0u8; tables::LINES_ROOM];
     let s = surveying::read_survey(text, &mut words, &mut numbers, &mut classes, &mut reasons);
     if in_words {
         explain::show_survey(text, s, &classes, &reasons);
@@ -74,7 +66,7 @@ fn show(text: &[u8], in_words: bool) {
         show_refusal(0, s.number);
         return;
     }
-    show_records(&words);
+    show_records(&words, &numbers);
     show_lines(s);
     show_refusals(&reasons);
 }
@@ -89,7 +81,7 @@ fn show_help() {
 
 // Argument `file` names the file.
 fn run(file: usize, in_words: bool) {
-    let mut buffer = [0u8; ROOM_TEXT];
+    let mut buffer = [0u8; input::TEXT_ROOM];
     let read = input::read_argument(b"tally", file, &mut buffer);
     if let Input::Read(n) = read {
         show(letters::cut(&buffer, 0, n), in_words);

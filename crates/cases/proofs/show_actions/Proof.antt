@@ -5,26 +5,32 @@ use Rattle.cases.proofs.show_actions.Tie as tie
 use Rattle.cases.proofs.show_actions.Reads as reads
 use Rattle.cases.proofs.show_actions.Lts as lts
 use Rattle.cases.proofs.show_action.Reads as show-action-reads
-use Rattle.printing.proofs.clause_row.Reads as clause-row-reads
-use Rattle.printing.proofs.records.Reads as records-reads
+use Rattle.stored.proofs.clause_at.Reads as clause-at-reads
+use Rattle.storedcounts.proofs.counts_at.Reads as counts-at-reads
 
 abbrev Inv-loop : tie.InvT-loop
-Inv-loop words all k₀ k = k ≤ all
+Inv-loop words numbers all k₀ k = k ≤ all
 
 abbrev μ-loop : tie.MeasureT-loop
-μ-loop words all k₀ k = all - k
+μ-loop words numbers all k₀ k = all - k
 
-records-requires : tie.Need-records-requires Inv-loop μ-loop
-records-requires c κs = search needs
+counts-at-requires : tie.Need-counts-at-requires Inv-loop μ-loop
+counts-at-requires c κs = search needs
 
 loop-holds : tie.Need-loop-holds Inv-loop μ-loop
 loop-holds c = search needs
 
-clause-row-requires : tie.Need-clause-row-requires Inv-loop μ-loop
-clause-row-requires c κs = search needs
+clause-at-requires : tie.Need-clause-at-requires Inv-loop μ-loop
+clause-at-requires c κs = search needs
+
+enum-known-clause : tie.Need-enum-known-clause Inv-loop μ-loop
+enum-known-clause c = search needs
 
 show-action-requires : tie.Need-show-action-requires Inv-loop μ-loop
 show-action-requires c κs = search needs
+
+enum-told : tie.Need-enum-told Inv-loop μ-loop
+enum-told c = search needs
 
 add-k : tie.Need-add-k Inv-loop μ-loop
 add-k c = search needs
@@ -44,10 +50,12 @@ show-actions-spec =
     (tie.spec
     Inv-loop
     μ-loop
-    records-requires
+    counts-at-requires
     loop-holds
-    clause-row-requires
+    clause-at-requires
+    enum-known-clause
     show-action-requires
+    enum-told
     add-k
     loop-less
     loop-again

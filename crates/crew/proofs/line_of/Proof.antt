@@ -6,7 +6,7 @@ use Rattle.crew.proofs.line_of.Tie as tie
 use Rattle.crew.proofs.line_of.Reads as reads
 use Rattle.crew.proofs.line_of.Lts as lts
 use Rattle.letters.proofs.cut.Reads as cut-reads
-use Rattle.printing.proofs.one_if.Reads as one-if-reads
+use Rattle.parts.proofs.one_if.Reads as one-if-reads
 
 abbrev Inv-loop : tie.InvT-loop
 Inv-loop text at before n₀ k₀ n k = (k ≤ length before) × (n ≤ k)

@@ -1,16 +1,17 @@
 use Prim.Native.Nat.{_-_, _≤_}
 use borrow.Author.Needs.{needs}
+use Rattle.scope.specs.Sections.{roomLines}
 use Rattle.crew.proofs.refused.Statement.{statement}
 use Rattle.crew.proofs.refused.Tie as tie
 use Rattle.crew.proofs.refused.Reads as reads
 use Rattle.crew.proofs.refused.Lts as lts
-use Rattle.printing.proofs.one_if.Reads as one-if-reads
+use Rattle.parts.proofs.one_if.Reads as one-if-reads
 
 abbrev Inv-loop : tie.InvT-loop
-Inv-loop reasons n₀ i₀ n i = (i ≤ 65536) × (n ≤ i)
+Inv-loop reasons n₀ i₀ n i = (i ≤ roomLines) × (n ≤ i)
 
 abbrev μ-loop : tie.MeasureT-loop
-μ-loop reasons n₀ i₀ n i = 65536 - i
+μ-loop reasons n₀ i₀ n i = roomLines - i
 
 loop-holds : tie.Need-loop-holds Inv-loop μ-loop
 loop-holds c = search needs

@@ -1,5 +1,6 @@
 use Prim.Native.Nat.{_-_, _≤_}
 use borrow.Author.Needs.{needs}
+use Rattle.scope.specs.Sections.{roomLines}
 use Rattle.explain.proofs.show_lines.Statement.{statement}
 use Rattle.explain.proofs.show_lines.Tie as tie
 use Rattle.explain.proofs.show_lines.Reads as reads
@@ -9,10 +10,10 @@ use Rattle.fields.proofs.letters_of.Reads as letters-of-reads
 use Rattle.scans.proofs.line_end.Reads as line-end-reads
 
 abbrev Inv-loop : tie.InvT-loop
-Inv-loop text classes reasons is-open₀ at₀ i₀ is-open at i = i ≤ 65536
+Inv-loop text classes reasons is-open₀ at₀ i₀ is-open at i = i ≤ roomLines
 
 abbrev μ-loop : tie.MeasureT-loop
-μ-loop text classes reasons is-open₀ at₀ i₀ is-open at i = 65536 - i
+μ-loop text classes reasons is-open₀ at₀ i₀ is-open at i = roomLines - i
 
 loop-holds : tie.Need-loop-holds Inv-loop μ-loop
 loop-holds c = search needs
