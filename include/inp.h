@@ -22,7 +22,7 @@ extern "C" {
 #define INP_NUMBERS_ROOM 8192
 #define INP_CLASSES_ROOM 65536
 #define INP_REASONS_ROOM 65536
-#define INP_COUNTS_ROOM 9
+#define INP_COUNTS_ROOM (INP_OPEN + 1) /* all lines, then those of each enum inp_class */
 
 /* The answers, and the reasons of a survey: document 01's "Numbers of the answers". */
 enum inp_answer {
@@ -37,7 +37,7 @@ enum inp_answer {
     INP_NO_CONDITION = 8,  /* a rule group has no condition */
     INP_NO_ACTION = 9,     /* a rule group has no action */
     INP_NO_ID = 10,        /* a rule group has no id */
-    INP_TOO_LONG = 20,     /* the text is longer than 65,536 bytes */
+    INP_TOO_LONG = 20,     /* the text is longer than INP_TEXT_ROOM bytes */
     INP_HIGH_BYTE = 21,    /* a byte of the text is above 127 */
     INP_BEYOND_REACH = 22, /* a number is well formed but beyond reach */
     INP_NO_ROOM = 23,      /* the record or the clauses do not fit */
@@ -96,6 +96,7 @@ uint64_t inp_read_survey(
  *
  * Each table is cut into regions, one for each kind of record. Record i of a kind stands at AT + i * WIDTH, in file
  * order, and takes WIDTH places. words[INP_COUNTS_AT + INP_COUNT_NODES] is how many nodes there are, and so on.
+ * The number of each #define is the library's: `bindings/layout` holds it against what the proved program `layout` prints.
  *
  * id:    place of the name in the text, its length, and a key that only the library needs
  * name:  place and length, or 0 and 0 where there is none
@@ -133,8 +134,9 @@ uint64_t inp_read_survey(
 #define INP_CLAUSES_AT 10828
 #define INP_CLAUSES_WIDTH 7
 #define INP_CLAUSES_MOST 512
-/* From 14412 on stand slots that only the library needs. */
+/* Between the clauses and the counts stand slots that only the library needs. The counts are one record. */
 #define INP_COUNTS_AT 17128
+#define INP_COUNTS_WIDTH 9
 
 /* Regions of numbers, for the same records. */
 #define INP_NODE_NUMBERS_AT 0
@@ -243,7 +245,7 @@ enum inp_time {
 /* A clause is a condition or an action. Its number is the value it compares with or the setting it gives, and 0 where it
  * has a status. */
 #define INP_CLAUSE_KIND 0   /* enum inp_clause_kind */
-#define INP_CLAUSE_STATUS 4 /* enum inp_status */
+#define INP_CLAUSE_STATUS 4 /* enum inp_link_status */
 #define INP_CLAUSE_NAME_PLACE 5
 #define INP_CLAUSE_NAME_LENGTH 6
 #define INP_CONDITION_OPERATOR 1   /* enum inp_operator */
@@ -252,7 +254,7 @@ enum inp_time {
 #define INP_ACTION_ELSE 1          /* 1 for an action under ELSE, 0 for one under THEN */
 #define INP_ACTION_LINK 2          /* the place of the link */
 enum inp_clause_kind { INP_CONDITION = 1, INP_ACTION = 2 };
-enum inp_status { INP_NO_STATUS = 0, INP_STATUS_OPEN = 1, INP_STATUS_CLOSED = 2, INP_STATUS_ACTIVE = 3 };
+enum inp_link_status { INP_NO_STATUS = 0, INP_STATUS_OPEN = 1, INP_STATUS_CLOSED = 2, INP_STATUS_ACTIVE = 3 };
 enum inp_operator { INP_AND = 1, INP_OR = 2 };
 enum inp_target {
     INP_SYSTEM_DEMAND = 1, INP_SYSTEM_TIME = 2, INP_SYSTEM_CLOCKTIME = 3,

@@ -40,8 +40,8 @@ mod refusal;
 pub use network::Network;
 pub use reader::{Class, Counts, Line, Reader, Strict, Survey};
 pub use records::{
-    Action, Clause, Comparison, Condition, Curve, Demand, Link, LinkAttribute, LinkKind, Multiplier, Node,
-    NodeAttribute, NodeKind, Operator, Pattern, PipeStatus, Point, Rule, Status, SystemAttribute, TankAttribute,
-    Target, Times, Value, ValveType,
+    Action, Clause, Comparison, Condition, Curve, Demand, Link, LinkAttribute, LinkKind, LinkStatus, Multiplier, Node,
+    NodeAttribute, NodeKind, Operator, Pattern, PipeStatus, Point, Rule, SystemAttribute, TankAttribute, Target, Times,
+    Value, ValveType,
 };
 pub use refusal::{Refusal, Refused};

@@ -1,6 +1,6 @@
 //! The records of a reading, taken out of the tables.
 
-use crate::layout::{numbers, words};
+use crate::layout::*;
 use crate::records::*;
 
 /// What a reading stored: the tables, and the text that its names are parts of. Cheap to copy.
@@ -11,39 +11,26 @@ pub struct Network<'r, 't> {
     numbers: &'r [f64],
 }
 
-/// The places of a kind in the row of counts.
-const NODES: usize = 0;
-const LINKS: usize = 1;
-const CURVES: usize = 2;
-const POINTS: usize = 3;
-const PATTERNS: usize = 4;
-const MULTIPLIERS: usize = 5;
-const DEMANDS: usize = 6;
-const RULES: usize = 7;
-const CLAUSES: usize = 8;
-
-const CONDITION: u64 = 1;
-
 impl<'r, 't> Network<'r, 't> {
     pub(crate) fn new(text: &'t [u8], words: &'r [u64], numbers: &'r [f64]) -> Self {
         Network { text, words, numbers }
     }
 
     pub fn nodes(self) -> impl ExactSizeIterator<Item = Node<'t>> {
-        (0..self.count(NODES)).map(move |i| self.node(i))
+        (0..self.count(COUNT_NODES)).map(move |i| self.node(i))
     }
 
     pub fn links(self) -> impl ExactSizeIterator<Item = Link<'t>> {
-        (0..self.count(LINKS)).map(move |i| self.link(i))
+        (0..self.count(COUNT_LINKS)).map(move |i| self.link(i))
     }
 
     pub fn curves(self) -> impl ExactSizeIterator<Item = Curve<'t>> {
-        (0..self.count(CURVES)).map(move |i| Curve { id: self.id(words::CURVES.row(self.words, i)) })
+        (0..self.count(COUNT_CURVES)).map(move |i| Curve { id: self.id(words::CURVES.row(self.words, i)) })
     }
 
     /// Those of all curves.
     pub fn points(self) -> impl ExactSizeIterator<Item = Point> {
-        (0..self.count(POINTS)).map(move |i| self.point(i))
+        (0..self.count(COUNT_POINTS)).map(move |i| self.point(i))
     }
 
     /// Those of the curve at this place.
@@ -52,12 +39,12 @@ impl<'r, 't> Network<'r, 't> {
     }
 
     pub fn patterns(self) -> impl ExactSizeIterator<Item = Pattern<'t>> {
-        (0..self.count(PATTERNS)).map(move |i| Pattern { id: self.id(words::PATTERNS.row(self.words, i)) })
+        (0..self.count(COUNT_PATTERNS)).map(move |i| Pattern { id: self.id(words::PATTERNS.row(self.words, i)) })
     }
 
     /// Those of all patterns.
     pub fn multipliers(self) -> impl ExactSizeIterator<Item = Multiplier> {
-        (0..self.count(MULTIPLIERS)).map(move |i| self.multiplier(i))
+        (0..self.count(COUNT_MULTIPLIERS)).map(move |i| self.multiplier(i))
     }
 
     /// Those of the pattern at this place.
@@ -67,12 +54,12 @@ impl<'r, 't> Network<'r, 't> {
 
     /// Those of all junctions.
     pub fn demands(self) -> impl ExactSizeIterator<Item = Demand<'t>> {
-        (0..self.count(DEMANDS)).map(move |i| self.demand(i))
+        (0..self.count(COUNT_DEMANDS)).map(move |i| self.demand(i))
     }
 
     /// Those of the junction at this place among the nodes.
     pub fn demands_of(self, node: usize) -> impl Iterator<Item = Demand<'t>> {
-        self.demands().filter(move |demand| demand.junction == node)
+        self.demands().filter(move |demand| demand.node == node)
     }
 
     pub fn times(self) -> Times {
@@ -87,12 +74,12 @@ impl<'r, 't> Network<'r, 't> {
     }
 
     pub fn rules(self) -> impl ExactSizeIterator<Item = Rule<'t>> {
-        (0..self.count(RULES)).map(move |i| self.rule(i))
+        (0..self.count(COUNT_RULES)).map(move |i| self.rule(i))
     }
 
     /// The conditions and actions of all rules.
     pub fn clauses(self) -> impl ExactSizeIterator<Item = Clause<'t>> {
-        (0..self.count(CLAUSES)).map(move |i| self.clause(i))
+        (0..self.count(COUNT_CLAUSES)).map(move |i| self.clause(i))
     }
 
     /// The conditions and actions of a rule of this network, in the order of its lines.
@@ -116,102 +103,109 @@ impl<'r, 't> Network<'r, 't> {
 
     /// The node at this place.
     pub fn node(self, i: usize) -> Node<'t> {
-        self.held(i, NODES);
-        let &[_, _, _, kind, at, length, detail, placed] = words::NODES.row(self.words, i) else { unreachable!() };
-        let &[elevation, a, b, c, d, e, x, y] = numbers::NODES.row(self.numbers, i) else { unreachable!() };
-        let name = self.name(at, length);
-        let kind = match kind {
-            1 => NodeKind::Junction { disabled: flag(detail), emitter: a },
+        self.held(i, COUNT_NODES);
+        let row = words::NODES.row(self.words, i);
+        let numbers = numbers::NODES.row(self.numbers, i);
+        let name = self.name(row[NODE_NAME_PLACE], row[NODE_NAME_LENGTH]);
+        let detail = row[NODE_DETAIL];
+        let kind = match row[NODE_KIND] {
+            1 => NodeKind::Junction { disabled: flag(detail), emitter: numbers[JUNCTION_EMITTER] },
             2 => NodeKind::Reservoir { pattern: name, pattern_index: index(detail) },
             3 => NodeKind::Tank {
-                initial_level: a,
-                minimum_level: b,
-                maximum_level: c,
-                diameter: d,
-                minimum_volume: e,
+                initial_level: numbers[TANK_INITIAL_LEVEL],
+                minimum_level: numbers[TANK_MINIMUM_LEVEL],
+                maximum_level: numbers[TANK_MAXIMUM_LEVEL],
+                diameter: numbers[TANK_DIAMETER],
+                minimum_volume: numbers[TANK_MINIMUM_VOLUME],
                 curve: name,
                 overflow: flag(detail),
             },
-            _ => unreachable!("no kind of node is {kind}"),
+            kind => unreachable!("no kind of node is {kind}"),
         };
-        Node { id: self.id(words::NODES.row(self.words, i)), elevation, at: flag(placed).then_some((x, y)), kind }
+        let at = flag(row[NODE_PLACED]).then_some((numbers[NODE_X], numbers[NODE_Y]));
+        Node { id: self.id(row), elevation: numbers[NODE_ELEVATION], at, kind }
     }
 
     /// The link at this place.
     pub fn link(self, i: usize) -> Link<'t> {
-        self.held(i, LINKS);
-        let &[_, _, _, start, end, kind, detail, at, length] = words::LINKS.row(self.words, i) else { unreachable!() };
-        let &[a, b, c, minor_loss] = numbers::LINKS.row(self.numbers, i) else { unreachable!() };
-        let name = self.name(at, length);
-        let kind = match kind {
-            1 => LinkKind::Pipe { length: a, diameter: b, roughness: c, minor_loss, status: pipe_status(detail) },
-            2 => LinkKind::Pump { speed: a, power: b, head_curve: name },
-            3 => LinkKind::Valve { valve_type: valve_type(detail), setting: a, diameter: b, minor_loss, curve: name },
-            _ => unreachable!("no kind of link is {kind}"),
+        self.held(i, COUNT_LINKS);
+        let row = words::LINKS.row(self.words, i);
+        let numbers = numbers::LINKS.row(self.numbers, i);
+        let name = self.name(row[LINK_NAME_PLACE], row[LINK_NAME_LENGTH]);
+        let detail = row[LINK_DETAIL];
+        let kind = match row[LINK_KIND] {
+            1 => LinkKind::Pipe {
+                length: numbers[PIPE_LENGTH],
+                diameter: numbers[PIPE_DIAMETER],
+                roughness: numbers[PIPE_ROUGHNESS],
+                minor_loss: numbers[PIPE_MINOR_LOSS],
+                status: pipe_status(detail),
+            },
+            2 => LinkKind::Pump { speed: numbers[PUMP_SPEED], power: numbers[PUMP_POWER], head_curve: name },
+            3 => LinkKind::Valve {
+                valve_type: valve_type(detail),
+                diameter: numbers[VALVE_DIAMETER],
+                setting: numbers[VALVE_SETTING],
+                minor_loss: numbers[VALVE_MINOR_LOSS],
+                curve: name,
+            },
+            kind => unreachable!("no kind of link is {kind}"),
         };
-        Link { id: self.id(words::LINKS.row(self.words, i)), start: start as usize, end: end as usize, kind }
+        Link { id: self.id(row), start: row[LINK_START] as usize, end: row[LINK_END] as usize, kind }
     }
 
     fn point(self, i: usize) -> Point {
-        let &[x, y] = numbers::POINTS.row(self.numbers, i) else { unreachable!() };
-        Point { curve: words::POINTS.row(self.words, i)[0] as usize, x, y }
+        let numbers = numbers::POINTS.row(self.numbers, i);
+        let curve = only(words::POINTS.row(self.words, i)) as usize;
+        Point { curve, x: numbers[POINT_X], y: numbers[POINT_Y] }
     }
 
     fn multiplier(self, i: usize) -> Multiplier {
-        let pattern = words::MULTIPLIERS.row(self.words, i)[0] as usize;
-        Multiplier { pattern, value: numbers::MULTIPLIERS.row(self.numbers, i)[0] }
+        let pattern = only(words::MULTIPLIERS.row(self.words, i)) as usize;
+        Multiplier { pattern, value: only(numbers::MULTIPLIERS.row(self.numbers, i)) }
     }
 
     fn demand(self, i: usize) -> Demand<'t> {
-        let &[node, own, at, length, pattern_index] = words::DEMANDS.row(self.words, i) else { unreachable!() };
+        let row = words::DEMANDS.row(self.words, i);
         Demand {
-            junction: node as usize,
-            own: flag(own),
-            base: numbers::DEMANDS.row(self.numbers, i)[0],
-            pattern: self.name(at, length),
-            pattern_index: index(pattern_index),
+            node: row[DEMAND_NODE] as usize,
+            own: flag(row[DEMAND_OWN]),
+            base: only(numbers::DEMANDS.row(self.numbers, i)),
+            pattern: self.name(row[DEMAND_NAME_PLACE], row[DEMAND_NAME_LENGTH]),
+            pattern_index: index(row[DEMAND_INDEX]),
         }
     }
 
     fn time(self, i: usize) -> Option<u64> {
-        let &[set, seconds] = words::TIMES.row(self.words, i) else { unreachable!() };
-        flag(set).then_some(seconds)
+        let row = words::TIMES.row(self.words, i);
+        flag(row[TIME_SET]).then_some(row[TIME_SECONDS])
     }
 
     fn rule(self, i: usize) -> Rule<'t> {
         let row = words::RULES.row(self.words, i);
-        let &[_, _, _, first, count, set, priority] = row else { unreachable!() };
-        let clauses = first as usize..(first + count) as usize;
-        Rule { id: self.id(row), priority: flag(set).then_some(priority), clauses }
+        let first = row[RULE_FIRST] as usize;
+        let clauses = first..first + row[RULE_COUNT] as usize;
+        Rule { id: self.id(row), priority: flag(row[RULE_PRIORITY_SET]).then_some(row[RULE_PRIORITY]), clauses }
     }
 
     fn clause(self, i: usize) -> Clause<'t> {
-        if words::CLAUSES.row(self.words, i)[0] == CONDITION {
-            Clause::Condition(self.condition(i))
-        } else {
-            Clause::Action(self.action(i))
-        }
-    }
-
-    fn condition(self, i: usize) -> Condition<'t> {
-        let &[_, operator, target, comparison, status, at, length] = words::CLAUSES.row(self.words, i) else {
-            unreachable!()
-        };
-        Condition {
-            operator: nth(&[Operator::And, Operator::Or], operator),
-            target: self::target(target, self.letters(at, length)),
-            comparison: self::comparison(comparison),
-            value: value(status, numbers::CLAUSES.row(self.numbers, i)[0]),
-        }
-    }
-
-    fn action(self, i: usize) -> Action<'t> {
-        let &[_, otherwise, link, _, status, at, length] = words::CLAUSES.row(self.words, i) else { unreachable!() };
-        Action {
-            otherwise: flag(otherwise),
-            link: link as usize,
-            link_id: self.letters(at, length),
-            value: value(status, numbers::CLAUSES.row(self.numbers, i)[0]),
+        let row = words::CLAUSES.row(self.words, i);
+        let value = value(row[CLAUSE_STATUS], only(numbers::CLAUSES.row(self.numbers, i)));
+        let id = self.letters(row[CLAUSE_NAME_PLACE], row[CLAUSE_NAME_LENGTH]);
+        match row[CLAUSE_KIND] {
+            1 => Clause::Condition(Condition {
+                operator: nth(&[Operator::And, Operator::Or], row[CONDITION_OPERATOR]),
+                target: target(row[CONDITION_TARGET], id),
+                comparison: comparison(row[CONDITION_COMPARISON]),
+                value,
+            }),
+            2 => Clause::Action(Action {
+                otherwise: flag(row[ACTION_ELSE]),
+                link: row[ACTION_LINK] as usize,
+                link_id: id,
+                value,
+            }),
+            kind => unreachable!("no kind of clause is {kind}"),
         }
     }
 
@@ -227,7 +221,7 @@ impl<'r, 't> Network<'r, 't> {
 
     /// The id that a row begins with: place, length, and a key that only the library needs.
     fn id(self, row: &[u64]) -> &'t [u8] {
-        self.letters(row[0], row[1])
+        self.letters(row[ID_PLACE], row[ID_LENGTH])
     }
 
     /// A name that may be none.
@@ -238,6 +232,12 @@ impl<'r, 't> Network<'r, 't> {
     fn letters(self, at: u64, length: u64) -> &'t [u8] {
         &self.text[at as usize..][..length as usize]
     }
+}
+
+/// The one place of a row of such records.
+fn only<T: Copy>(row: &[T]) -> T {
+    let &[place] = row else { unreachable!("a row of {}", row.len()) };
+    place
 }
 
 fn flag(word: u64) -> bool {
@@ -295,6 +295,6 @@ fn comparison(number: u64) -> Comparison {
 fn value(status: u64, number: f64) -> Value {
     match status {
         0 => Value::Number(number),
-        _ => Value::Status(nth(&[Status::Open, Status::Closed, Status::Active], status)),
+        _ => Value::Status(nth(&[LinkStatus::Open, LinkStatus::Closed, LinkStatus::Active], status)),
     }
 }

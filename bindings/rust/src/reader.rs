@@ -16,10 +16,10 @@ pub struct Reader {
 impl Reader {
     pub fn new() -> Reader {
         Reader {
-            words: vec![0; layout::WORDS].into(),
-            numbers: vec![0.0; layout::NUMBERS].into(),
-            classes: vec![0; layout::LINES].into(),
-            reasons: vec![0; layout::LINES].into(),
+            words: vec![0; layout::WORDS_ROOM].into(),
+            numbers: vec![0.0; layout::NUMBERS_ROOM].into(),
+            classes: vec![0; layout::CLASSES_ROOM].into(),
+            reasons: vec![0; layout::REASONS_ROOM].into(),
         }
     }
 
@@ -33,7 +33,7 @@ impl Reader {
 
     /// Reads to the end, past what is refused, and says of each line what became of it.
     pub fn read_survey<'t>(&mut self, text: &'t [u8]) -> Survey<'_, 't> {
-        let mut counts = [0; layout::COUNTS];
+        let mut counts = [0; layout::COUNTS_ROOM];
         let number = ffi::read_survey(
             text, &mut self.words, &mut self.numbers, &mut self.classes, &mut self.reasons, &mut counts,
         );
@@ -145,7 +145,7 @@ pub struct Counts {
 }
 
 impl Counts {
-    fn new(counts: [u64; layout::COUNTS]) -> Counts {
+    fn new(counts: [u64; layout::COUNTS_ROOM]) -> Counts {
         let [lines, blank, header, passed, taken, refused, rule_taken, rule_refused, open] = counts.map(|n| n as usize);
         Counts { lines, blank, header, passed, taken, refused, rule_taken, rule_refused, open }
     }

@@ -95,8 +95,8 @@ pub struct Multiplier {
 
 #[derive(Clone, Copy, Debug, PartialEq)]
 pub struct Demand<'t> {
-    /// The place of the junction among the nodes.
-    pub junction: usize,
+    /// The place of its junction among the nodes.
+    pub node: usize,
     /// Whether it is the demand of the junction's own line, which the first line of DEMANDS for it replaces.
     pub own: bool,
     pub base: f64,
@@ -208,11 +208,11 @@ pub enum Comparison {
 #[derive(Clone, Copy, Debug, PartialEq)]
 pub enum Value {
     Number(f64),
-    Status(Status),
+    Status(LinkStatus),
 }
 
 #[derive(Clone, Copy, Debug, PartialEq, Eq, Hash)]
-pub enum Status {
+pub enum LinkStatus {
     Open,
     Closed,
     Active,

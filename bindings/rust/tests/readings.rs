@@ -27,8 +27,8 @@ fn rule_a(network: Network) {
         comparison: Comparison::Below,
         value: Value::Number(3.0),
     };
-    let shut = Action { otherwise: false, link: 0, link_id: b"P1", value: Value::Status(Status::Closed) };
-    let open = Action { otherwise: true, link: 0, link_id: b"P1", value: Value::Status(Status::Open) };
+    let shut = Action { otherwise: false, link: 0, link_id: b"P1", value: Value::Status(LinkStatus::Closed) };
+    let open = Action { otherwise: true, link: 0, link_id: b"P1", value: Value::Status(LinkStatus::Open) };
     let clauses = [Clause::Condition(level), Clause::Action(shut), Clause::Action(open)];
     assert!(network.clauses_of(rule).eq(clauses));
     assert!(network.conditions_of(rule).eq([level]));
@@ -46,7 +46,7 @@ fn sample_records(network: Network) {
     assert!(network.nodes().eq(nodes));
     assert_eq!(network.links().len(), 1);
     network.links().for_each(|link| pipe_p1(&link));
-    let demand = Demand { junction: 0, own: true, base: 0.0, pattern: None, pattern_index: None };
+    let demand = Demand { node: 0, own: true, base: 0.0, pattern: None, pattern_index: None };
     assert!(network.demands().eq([demand]));
     assert!(network.demands_of(1).next().is_none());
     assert_eq!((network.curves().len(), network.patterns().len()), (0, 0));
@@ -147,8 +147,8 @@ fn records_of_every_kind_carry_their_fields() {
     assert_eq!(n.link(2).kind, pipe(PipeStatus::CheckValve));
     assert_eq!(n.link(3).kind, pipe(PipeStatus::Closed));
 
-    let first = Demand { junction: 0, own: false, base: 5.0, pattern: Some(b"N"), pattern_index: Some(0) };
-    let second = Demand { junction: 0, own: false, base: 6.0, pattern: None, pattern_index: None };
+    let first = Demand { node: 0, own: false, base: 5.0, pattern: Some(b"N"), pattern_index: Some(0) };
+    let second = Demand { node: 0, own: false, base: 6.0, pattern: None, pattern_index: None };
     assert!(n.demands_of(0).eq([first, second]));
 
     assert!(n.curves().map(|curve| curve.id).eq([b"C", b"D"]));
@@ -167,7 +167,7 @@ fn records_of_every_kind_carry_their_fields() {
     let head = Target::Node { id: b"J", attribute: NodeAttribute::Head };
     assert!(n.conditions_of(&rule).eq([
         condition(Operator::And, clocktime, Comparison::AtLeast, Value::Number(46_800.0)),
-        condition(Operator::Or, status, Comparison::Equal, Value::Status(Status::Active)),
+        condition(Operator::Or, status, Comparison::Equal, Value::Status(LinkStatus::Active)),
         condition(Operator::And, head, Comparison::NotEqual, Value::Number(1.0)),
     ]));
     let setting = Action { otherwise: false, link: 1, link_id: b"V", value: Value::Number(5.0) };
@@ -255,14 +255,14 @@ fn a_second_reading_holds_nothing_of_the_first() {
 
 #[test]
 fn a_small_table_is_answered_28_and_nothing_is_written() {
-    let mut words = vec![7; layout::WORDS];
-    let mut numbers = vec![7.0; layout::NUMBERS - 1];
+    let mut words = vec![7; layout::WORDS_ROOM];
+    let mut numbers = vec![7.0; layout::NUMBERS_ROOM - 1];
     let mut line = 7;
     assert_eq!(ffi::read_strict(SAMPLE, &mut words, &mut numbers, &mut line), Refusal::SmallTable.number());
     assert_eq!(line, 0);
 
-    let mut lines = [vec![7; layout::LINES], vec![7; layout::LINES]];
-    let mut counts = [7; layout::COUNTS];
+    let mut lines = [vec![7; layout::CLASSES_ROOM], vec![7; layout::REASONS_ROOM]];
+    let mut counts = [7; layout::COUNTS_ROOM];
     let [classes, reasons] = &mut lines;
     assert_eq!(ffi::read_survey(SAMPLE, &mut words, &mut numbers, classes, reasons, &mut counts), 28);
     assert!(words.iter().chain(&counts).all(|&word| word == 7));

@@ -38,11 +38,11 @@ pub struct Tables {
 impl Tables {
     pub fn new() -> Tables {
         Tables {
-            words: vec![0; layout::WORDS],
-            numbers: vec![0.0; layout::NUMBERS],
-            classes: vec![0; layout::LINES],
-            reasons: vec![0; layout::LINES],
-            counts: vec![0; layout::COUNTS],
+            words: vec![0; layout::WORDS_ROOM],
+            numbers: vec![0.0; layout::NUMBERS_ROOM],
+            classes: vec![0; layout::CLASSES_ROOM],
+            reasons: vec![0; layout::REASONS_ROOM],
+            counts: vec![0; layout::COUNTS_ROOM],
         }
     }
 

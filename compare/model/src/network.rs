@@ -5,16 +5,16 @@ use crate::{NO_ROOM, Refusal, USED};
 /// The part of the text that it is.
 pub type Name<'t> = &'t [u8];
 
-pub const TEXT: usize = 65_536;
-pub const NODES: usize = 256;
-pub const LINKS: usize = 256;
-pub const CURVES: usize = 64;
-pub const POINTS: usize = 1_024;
-pub const PATTERNS: usize = 64;
-pub const MULTIPLIERS: usize = 2_048;
-pub const DEMANDS: usize = 512;
-pub const RULES: usize = 64;
-pub const CLAUSES: usize = 512;
+pub const TEXT_ROOM: usize = 65_536;
+pub const NODES_MOST: usize = 256;
+pub const LINKS_MOST: usize = 256;
+pub const CURVES_MOST: usize = 64;
+pub const POINTS_MOST: usize = 1_024;
+pub const PATTERNS_MOST: usize = 64;
+pub const MULTIPLIERS_MOST: usize = 2_048;
+pub const DEMANDS_MOST: usize = 512;
+pub const RULES_MOST: usize = 64;
+pub const CLAUSES_MOST: usize = 512;
 
 pub struct Demand<'t> {
     /// The place of its node.
@@ -167,7 +167,7 @@ impl<'t> Network<'t> {
         if self.node(node.id).is_some() {
             return Err(USED);
         }
-        fits(self.nodes.len(), 1, NODES)?;
+        fits(self.nodes.len(), 1, NODES_MOST)?;
         self.nodes.push(node);
         Ok(())
     }
@@ -175,7 +175,7 @@ impl<'t> Network<'t> {
     /// A junction and the demand of its own line, or neither.
     pub fn add_junction(&mut self, node: Node<'t>, base: f64, pattern: Option<Name<'t>>) -> Result<(), Refusal> {
         if self.node(node.id).is_none() {
-            fits(self.demands.len(), 1, DEMANDS)?;
+            fits(self.demands.len(), 1, DEMANDS_MOST)?;
         }
         self.add_node(node)?;
         self.demands.push(Demand { junction: self.nodes.len() - 1, own: true, base, pattern, index: None });
@@ -186,7 +186,7 @@ impl<'t> Network<'t> {
         if self.link(link.id).is_some() {
             return Err(USED);
         }
-        fits(self.links.len(), 1, LINKS)?;
+        fits(self.links.len(), 1, LINKS_MOST)?;
         self.links.push(link);
         Ok(())
     }
@@ -195,8 +195,8 @@ impl<'t> Network<'t> {
         if self.rules.iter().any(|other| other.id == id) {
             return Err(USED);
         }
-        fits(self.rules.len(), 1, RULES)?;
-        fits(self.clauses.len(), clauses.len(), CLAUSES)?;
+        fits(self.rules.len(), 1, RULES_MOST)?;
+        fits(self.clauses.len(), clauses.len(), CLAUSES_MOST)?;
         let first = self.clauses.len();
         self.rules.push(Rule { id, priority, clauses: first..first + clauses.len() });
         self.clauses.extend(clauses);

@@ -1,7 +1,7 @@
 //! "Lines and groups": strict reading, survey reading, and striking.
 
 use crate::fields::trim;
-use crate::network::{Network, TEXT};
+use crate::network::{Network, TEXT_ROOM};
 use crate::rules::rule;
 use crate::sections::{Section, read_line, section};
 use crate::{NOT_ASCII, Refusal, TOO_LONG};
@@ -50,7 +50,7 @@ pub fn lines(text: &[u8]) -> impl Iterator<Item = &[u8]> {
 }
 
 fn whole_refusal(text: &[u8]) -> Refusal {
-    if text.len() > TEXT {
+    if text.len() > TEXT_ROOM {
         TOO_LONG
     } else if !text.is_ascii() {
         NOT_ASCII

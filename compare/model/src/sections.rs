@@ -151,8 +151,8 @@ fn curve<'t>(network: &mut Network<'t>, mut fields: Fields<'t>) -> Result<(), Re
     if last.is_some_and(|last| x < last.x) {
         return Err(X_FALLS);
     }
-    fits(network.points.len(), 1, POINTS)?;
-    let curve = place(&mut network.curves, known, id, CURVES)?;
+    fits(network.points.len(), 1, POINTS_MOST)?;
+    let curve = place(&mut network.curves, known, id, CURVES_MOST)?;
     network.points.push(Point { curve, x, y });
     Ok(())
 }
@@ -163,9 +163,9 @@ fn pattern<'t>(network: &mut Network<'t>, mut fields: Fields<'t>) -> Result<(), 
     while let Some(field) = fields.optional() {
         values.push(number(field)?);
     }
-    fits(network.multipliers.len(), values.len(), MULTIPLIERS)?;
+    fits(network.multipliers.len(), values.len(), MULTIPLIERS_MOST)?;
     let known = network.patterns.iter().position(|&pattern| pattern == id);
-    let pattern = place(&mut network.patterns, known, id, PATTERNS)?;
+    let pattern = place(&mut network.patterns, known, id, PATTERNS_MOST)?;
     network.multipliers.extend(values.into_iter().map(|value| Multiplier { pattern, value }));
     Ok(())
 }
@@ -190,7 +190,7 @@ fn demand<'t>(network: &mut Network<'t>, mut fields: Fields<'t>) -> Result<(), R
     match network.demands.iter_mut().find(|other| other.own && other.junction == junction) {
         Some(own) => *own = demand,
         None => {
-            fits(network.demands.len(), 1, DEMANDS)?;
+            fits(network.demands.len(), 1, DEMANDS_MOST)?;
             network.demands.push(demand);
         }
     }

@@ -2,12 +2,35 @@
 
 use crate::network::*;
 
-pub const WORDS: usize = 17_137;
+const WORDS_ROOM: usize = 17_137;
+const NUMBERS_ROOM: usize = 8_192;
+
+/// How many words a record of each kind has.
+const NODES_WIDTH: usize = 8;
+const LINKS_WIDTH: usize = 9;
+const CURVES_WIDTH: usize = 3;
+const POINTS_WIDTH: usize = 1;
+const PATTERNS_WIDTH: usize = 3;
+const MULTIPLIERS_WIDTH: usize = 1;
+const DEMANDS_WIDTH: usize = 5;
+const TIMES_WIDTH: usize = 2;
+const RULES_WIDTH: usize = 7;
+const CLAUSES_WIDTH: usize = 7;
+
+/// How many numbers.
+const NODE_NUMBERS_WIDTH: usize = 8;
+const LINK_NUMBERS_WIDTH: usize = 4;
+const POINT_NUMBERS_WIDTH: usize = 2;
+const MULTIPLIER_NUMBERS_WIDTH: usize = 1;
+const DEMAND_NUMBERS_WIDTH: usize = 1;
+const CLAUSE_NUMBERS_WIDTH: usize = 1;
+
+/// How many times there are.
+const TIMES_MOST: usize = 6;
 /// How many slots the nodes have, and the links, the curves, the patterns.
-const NAME_SLOTS: usize = 615;
+const SLOTS_MOST: usize = 615;
 /// How many slots the demands have.
-const DEMAND_SLOTS: usize = 256;
-pub const NUMBERS: usize = 8_192;
+const DEMAND_SLOTS_MOST: usize = 256;
 
 /// The words that a reading of the text leaves.
 pub fn words(text: &[u8], n: &Network) -> Vec<u64> {
@@ -26,44 +49,52 @@ pub fn words(text: &[u8], n: &Network) -> Vec<u64> {
         n.clauses.len(),
     ];
     let regions = [
-        region(NODES * 8, n.nodes.iter().map(|node| [id(node.id), node_words(node, name)].concat())),
-        region(LINKS * 9, n.links.iter().map(|link| [id(link.id), link_words(link, name)].concat())),
-        region(CURVES * 3, n.curves.iter().map(|curve| id(curve))),
-        region(POINTS, n.points.iter().map(|point| vec![point.curve as u64])),
-        region(PATTERNS * 3, n.patterns.iter().map(|pattern| id(pattern))),
-        region(MULTIPLIERS, n.multipliers.iter().map(|multiplier| vec![multiplier.pattern as u64])),
-        region(DEMANDS * 5, n.demands.iter().map(|demand| demand_words(demand, name))),
-        region(6 * 2, n.times.iter().map(|time| count(*time).to_vec())),
-        region(RULES * 7, n.rules.iter().map(|rule| [id(rule.id), rule_words(rule)].concat())),
-        region(CLAUSES * 7, n.clauses.iter().map(|clause| clause_words(clause, name))),
-        slots(NAME_SLOTS, n.nodes.iter().map(|node| key(node.id))),
-        slots(NAME_SLOTS, n.links.iter().map(|link| key(link.id))),
-        slots(NAME_SLOTS, n.curves.iter().map(|curve| key(curve))),
-        slots(NAME_SLOTS, n.patterns.iter().map(|pattern| key(pattern))),
-        slots(DEMAND_SLOTS, n.demands.iter().map(|demand| demand.junction as u64)),
+        region(NODES_MOST, NODES_WIDTH, n.nodes.iter().map(|node| [id(node.id), node_words(node, name)].concat())),
+        region(LINKS_MOST, LINKS_WIDTH, n.links.iter().map(|link| [id(link.id), link_words(link, name)].concat())),
+        region(CURVES_MOST, CURVES_WIDTH, n.curves.iter().map(|curve| id(curve))),
+        region(POINTS_MOST, POINTS_WIDTH, n.points.iter().map(|point| vec![point.curve as u64])),
+        region(PATTERNS_MOST, PATTERNS_WIDTH, n.patterns.iter().map(|pattern| id(pattern))),
+        region(MULTIPLIERS_MOST, MULTIPLIERS_WIDTH, n.multipliers.iter().map(|m| vec![m.pattern as u64])),
+        region(DEMANDS_MOST, DEMANDS_WIDTH, n.demands.iter().map(|demand| demand_words(demand, name))),
+        region(TIMES_MOST, TIMES_WIDTH, n.times.iter().map(|time| count(*time).to_vec())),
+        region(RULES_MOST, RULES_WIDTH, n.rules.iter().map(|rule| [id(rule.id), rule_words(rule)].concat())),
+        region(CLAUSES_MOST, CLAUSES_WIDTH, n.clauses.iter().map(|clause| clause_words(clause, name))),
+        slots(SLOTS_MOST, n.nodes.iter().map(|node| key(node.id))),
+        slots(SLOTS_MOST, n.links.iter().map(|link| key(link.id))),
+        slots(SLOTS_MOST, n.curves.iter().map(|curve| key(curve))),
+        slots(SLOTS_MOST, n.patterns.iter().map(|pattern| key(pattern))),
+        slots(DEMAND_SLOTS_MOST, n.demands.iter().map(|demand| demand.junction as u64)),
         counts.map(|count| count as u64).to_vec(),
     ];
-    regions.concat()
+    filled(WORDS_ROOM, regions.concat())
 }
 
 /// The doubles that a reading leaves.
 pub fn numbers(n: &Network) -> Vec<f64> {
     let regions = [
-        region(NODES * 8, n.nodes.iter().map(node_numbers)),
-        region(LINKS * 4, n.links.iter().map(|link| link_numbers(link).to_vec())),
-        region(POINTS * 2, n.points.iter().map(|point| vec![point.x, point.y])),
-        region(MULTIPLIERS, n.multipliers.iter().map(|multiplier| vec![multiplier.value])),
-        region(DEMANDS, n.demands.iter().map(|demand| vec![demand.base])),
-        region(CLAUSES, n.clauses.iter().map(|clause| vec![clause_number(clause)])),
+        region(NODES_MOST, NODE_NUMBERS_WIDTH, n.nodes.iter().map(node_numbers)),
+        region(LINKS_MOST, LINK_NUMBERS_WIDTH, n.links.iter().map(|link| link_numbers(link).to_vec())),
+        region(POINTS_MOST, POINT_NUMBERS_WIDTH, n.points.iter().map(|point| vec![point.x, point.y])),
+        region(MULTIPLIERS_MOST, MULTIPLIER_NUMBERS_WIDTH, n.multipliers.iter().map(|m| vec![m.value])),
+        region(DEMANDS_MOST, DEMAND_NUMBERS_WIDTH, n.demands.iter().map(|demand| vec![demand.base])),
+        region(CLAUSES_MOST, CLAUSE_NUMBERS_WIDTH, n.clauses.iter().map(|clause| vec![clause_number(clause)])),
     ];
-    regions.concat()
+    filled(NUMBERS_ROOM, regions.concat())
 }
 
-/// The records one after another, then zeros.
-fn region<T: Default + Clone>(places: usize, records: impl Iterator<Item = Vec<T>>) -> Vec<T> {
-    let mut region: Vec<T> = records.flatten().collect();
-    assert!(region.len() <= places, "the records fit their room");
-    region.resize(places, T::default());
+/// The regions fill the room.
+fn filled<T>(room: usize, table: Vec<T>) -> Vec<T> {
+    assert_eq!(table.len(), room, "the regions fill the room");
+    table
+}
+
+/// The records one after another, each as wide as its kind, then zeros.
+fn region<T: Default + Clone>(most: usize, width: usize, records: impl Iterator<Item = Vec<T>>) -> Vec<T> {
+    let rows: Vec<Vec<T>> = records.collect();
+    assert!(rows.len() <= most, "the records fit their room");
+    assert!(rows.iter().all(|row| row.len() == width), "each record has its width");
+    let mut region = rows.concat();
+    region.resize(most * width, T::default());
     region
 }
 

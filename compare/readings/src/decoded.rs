@@ -1,6 +1,6 @@
 //! What the crate `inp` makes of the library's tables, as the model's records.
 
-use inp::{Comparison, LinkAttribute, NodeAttribute, Operator, Status, SystemAttribute, TankAttribute, Target};
+use inp::{Comparison, LinkAttribute, LinkStatus, NodeAttribute, Operator, SystemAttribute, TankAttribute, Target};
 use model::network::*;
 
 pub fn network<'t>(n: inp::Network<'_, 't>) -> Network<'t> {
@@ -74,7 +74,7 @@ fn valve_kind(valve_type: inp::ValveType) -> &'static str {
 }
 
 fn demand(demand: inp::Demand) -> Demand {
-    let inp::Demand { junction, own, base, pattern, pattern_index: index } = demand;
+    let inp::Demand { node: junction, own, base, pattern, pattern_index: index } = demand;
     Demand { junction, own, base, pattern, index }
 }
 
@@ -122,8 +122,8 @@ fn comparison(comparison: Comparison) -> &'static str {
 fn value(value: inp::Value) -> Value {
     match value {
         inp::Value::Number(x) => Value::Number(x),
-        inp::Value::Status(Status::Open) => Value::Status("OPEN"),
-        inp::Value::Status(Status::Closed) => Value::Status("CLOSED"),
-        inp::Value::Status(Status::Active) => Value::Status("ACTIVE"),
+        inp::Value::Status(LinkStatus::Open) => Value::Status("OPEN"),
+        inp::Value::Status(LinkStatus::Closed) => Value::Status("CLOSED"),
+        inp::Value::Status(LinkStatus::Active) => Value::Status("ACTIVE"),
     }
 }

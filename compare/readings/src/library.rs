@@ -3,7 +3,7 @@
 
 use crate::decoded;
 use inp::{Reader, Refused, ffi, layout};
-use model::network::{Network, TEXT};
+use model::network::{Network, TEXT_ROOM};
 use model::reading::{Strict, Survey};
 use model::tables;
 use std::fmt::Debug;
@@ -15,7 +15,8 @@ const NOISE: u64 = 0xdead_beef_dead_beef;
 const NOISE_BYTE: u8 = 0xdb;
 /// The answer where a table is smaller than its room.
 const SMALL: u64 = 28;
-const ROOMS: [usize; 5] = [layout::WORDS, layout::NUMBERS, layout::LINES, layout::LINES, layout::COUNTS];
+const ROOMS: [usize; 5] =
+    [layout::WORDS_ROOM, layout::NUMBERS_ROOM, layout::CLASSES_ROOM, layout::REASONS_ROOM, layout::COUNTS_ROOM];
 
 pub struct Library {
     lent: Tables,
@@ -86,7 +87,7 @@ impl Library {
     /// and nothing is written.
     pub fn small(&mut self, text: &[u8]) -> Result<(), String> {
         let chosen = sum(text);
-        if text.len() <= TEXT && !chosen.is_multiple_of(8) {
+        if text.len() <= TEXT_ROOM && !chosen.is_multiple_of(8) {
             return Ok(());
         }
         let table = chosen as usize / 8 % ROOMS.len();
@@ -186,19 +187,19 @@ fn answer_of(refused: Option<Refused>) -> (u64, u64) {
 /// One entry for each line, then zeros.
 fn padded(lines: &[u8]) -> Vec<u8> {
     let mut places = lines.to_vec();
-    places.resize(layout::LINES, 0);
+    places.resize(layout::CLASSES_ROOM, 0);
     places
 }
 
 /// The lines, and those of each class.
-fn counts_of(classes: &[u8]) -> [u64; layout::COUNTS] {
-    let mut counts = [0; layout::COUNTS];
+fn counts_of(classes: &[u8]) -> [u64; layout::COUNTS_ROOM] {
+    let mut counts = [0; layout::COUNTS_ROOM];
     counts[0] = classes.len() as u64;
     classes.iter().for_each(|&class| counts[usize::from(class)] += 1);
     counts
 }
 
-fn crate_counts(c: inp::Counts) -> [u64; layout::COUNTS] {
+fn crate_counts(c: inp::Counts) -> [u64; layout::COUNTS_ROOM] {
     let counts = [c.lines, c.blank, c.header, c.passed, c.taken, c.refused, c.rule_taken, c.rule_refused, c.open];
     counts.map(|count| count as u64)
 }
