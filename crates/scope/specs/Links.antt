@@ -12,7 +12,7 @@ use Rattle.decimals.specs.declared.Number as N
 use Rattle.decimals.specs.declared.Number.the-variants as number
 use Rattle.fields.specs.Fields.{Name}
 use Rattle.letters.specs.Words.{same, spelled}
-use Rattle.scope.specs.declared.Reason.the-variants.{Missing, Used, NotFound, UnknownWord, BeyondReach, NoRoom}
+use Rattle.scope.specs.declared.Reason.the-variants.{Missing, Used, NotFound, UnknownWord, NoRoom}
 use Rattle.scope.specs.declared.PipeStatus.{PipeStatus}
 use Rattle.scope.specs.declared.PipeStatus.the-variants.{Open, Closed, CheckValve}
 use Rattle.scope.specs.declared.ValveType.{ValveType}

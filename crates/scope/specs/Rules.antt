@@ -29,7 +29,7 @@ use Rattle.scope.specs.declared.LinkStatus.the-variants.{Open, Closed, A
 use Rattle.scope.specs.Spelling.{wordRule, wordIf, wordAnd, wordOr, wordThen, wordElse, wordPriority, wordSystem, wordNode, wordTank, wordLink, wordPipe, wordValve, wordPump, wordDemand, wordTime, wordClocktime, wordHead, wordPressure, wordLevel, wordFilltime, wordDraintime, wordFlow, wordStatus, wordSetting, wordIs, signEquals, wordNot, signUnequal, wordAbove, signAbove, wordBelow, signBelow, signAtLeast, signAtMost, wordOpen, wordClosed, wordActive}
 use Rattle.scope.specs.Sections.{roomRules, roomClauses}
 use Rattle.scope.specs.Records as R
-use Rattle.scope.specs.Records.{Network, LinkKind, pipe, pump, valve, noName, Clause, condition, action, Condition, Action, withRules, withClauses, linkIds, ruleIds, lookup, noLink}
+use Rattle.scope.specs.Records.{Network, LinkKind, pipe, pump, valve, Clause, condition, action, Condition, Action, withRules, withClauses, linkIds, ruleIds, lookup, noLink}
 use Rattle.scope.specs.Values.{Read, good, bad, onRead, Took, took, refused, onTook, onFound, nameFrom, asNumber, countFrom, timeAt}
 
 -- ---- "a condition's target is one of four kinds, each with its own attribute (system, node, tank, link); ids in conditions are not looked up"

@@ -8,10 +8,9 @@ use lib.Dec.{eqb}
 use lib.Ieee.{Float, nan}
 use Rattle.fields.specs.Fields.{Name}
 use Rattle.scope.specs.Records as R
-use Rattle.scope.specs.Records.{Network, zeroF, noName, junction, reservoir, tank, pipe, pump, valve, condition, action}
+use Rattle.scope.specs.Records.{Network, zeroF, junction, reservoir, tank, pipe, pump, valve, condition, action}
 use Rattle.scope.specs.Layout.{nameLength, nodeKind, nodeName, nodeDetail, linkKind, linkDetail, linkName, clauseKind, conditionOperator, conditionTarget, conditionComparison, actionElse, actionLink, clauseStatus, clauseName}
 use Rattle.scope.specs.Layout.{nodeElevation, junctionEmitter, tankInitial, tankMinimum, tankMaximum, tankDiameter, tankVolume, pipeLength, pipeDiameter, pipeRoughness, pipeMinor, pumpSpeed, pumpPower, valveSetting, valveDiameter, valveMinor, recordWords, roomNumbers}
-use Rattle.scope.specs.declared.Value.the-variants.{Number}
 use Rattle.scope.specs.declared.Tank as tankOut
 use Rattle.scope.specs.declared.Pipe as pipeOut
 use Rattle.scope.specs.declared.Pump as pumpOut

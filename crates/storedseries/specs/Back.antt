@@ -1,7 +1,6 @@
 -- A curve, point, pattern, multiplier or demand read back from the tables: what the code has for each record of the network. Assumes nothing.
 use Rattle.fields.specs.Fields.{Name}
 use Rattle.scope.specs.Records as R
-use Rattle.scope.specs.Records.{zeroF}
 use Rattle.codes.specs.Codes.{nameSpan, nameField, placeFound}
 use Rattle.storedseries.specs.declared.Curve as curveOut
 use Rattle.storedseries.specs.declared.Pattern as patternOut

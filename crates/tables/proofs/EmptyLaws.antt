@@ -5,7 +5,7 @@ use native.Mathlib.Nat.{sub-zero}
 use mathlib.Core.Path.{_≡_, refl, sym, ap, _∙_}
 use mathlib.Core.List.{List, [], _∷_, _++_, map}
 use mathlib.Core.Option.{Option, none, some}
-use lib.ListN.{length, drop, replicate, length-append, replicate-append-replicate}
+use lib.ListN.{length, replicate, length-append, replicate-append-replicate}
 use lib.Ieee.{Float}
 use Rattle.scope.specs.Records.{Network, zeroF, noNetwork, countsOf}
 use Rattle.scope.specs.Tables.{flat, region, blocks, idWords, countWords, nodeWords, nodeNumbers, linkWords, linkNumbers, pointWords, pointNumbers, multiplierWords, multiplierNumbers, demandWords, demandNumbers, ruleWords, clauseWords, clauseNumbers, slotsFrom, slots, idSlot, nodeSlot, linkSlot, demandSlot, wordBlocks, numberBlocks}

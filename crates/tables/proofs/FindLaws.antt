@@ -5,11 +5,11 @@ use mathlib.Core.Path.{_≡_, refl, ap, _∙_}
 use mathlib.Core.List.{List}
 use lib.ListN.{length, getD}
 use Rattle.scope.specs.Records.{Network, countsOf, recordsOf, idsOf}
-use Rattle.scope.specs.Tables.{keyOf, slotOf}
+use Rattle.scope.specs.Tables.{slotOf}
 use Rattle.scope.specs.Layout.{nodeSlotsAt, linkSlotsAt, curveSlotsAt, patternSlotsAt}
 use Rattle.scope.specs.declared.Kind.{Kind}
 use Rattle.scope.specs.declared.Kind.the-variants.{Nodes, Links, Curves, Patterns, Rules}
-use Rattle.tables.specs.Holding.{Words, Rows, NotInSlot, OtherNames}
+use Rattle.tables.specs.Holding.{Words, Rows, NotInSlot}
 use Rattle.tables.specs.Finding.{baseOf, widthOf, StartsAt}
 use Rattle.tables.proofs.ReadLaws.{node-rows, link-rows, curve-rows, pattern-rows, rule-rows, node-count, link-count, rule-count}
 use Rattle.tables.proofs.StartLaws.{nodes-before, links-before, curves-before, patterns-before}

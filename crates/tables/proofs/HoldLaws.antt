@@ -19,7 +19,7 @@ use Rattle.scope.specs.Series.{multiplierOf}
 use Rattle.scope.specs.Tables.{flat, region, blocks, idWords, countWords, nodeWords, nodeNumbers, linkWords, linkNumbers, pointWords, pointNumbers, multiplierWords, multiplierNumbers, demandWords, demandNumbers, ruleWords, clauseWords, clauseNumbers, marked, slots, idSlot, nodeSlot, linkSlot, demandSlot, wordBlocks, numberBlocks}
 use Rattle.scope.specs.declared.Counts.{Counts}
 use Rattle.tables.specs.Table.{splice}
-use Rattle.scope.specs.Layout.{curveSlotsLong, demandSlotsLong, demandsLong, linkSlotsLong, nodeSlotsLong, nodesLong, patternSlotsLong, nodesAt, linksAt, curvesAt, pointsAt, patternsAt, multipliersAt, demandsAt, timesAt, rulesAt, clausesAt, nodeSlotsAt, linkSlotsAt, curveSlotsAt, patternSlotsAt, demandSlotsAt, nodesWidth, linksWidth, idWidth, demandsWidth, timesWidth, rulesWidth, clausesWidth, nodeNumbersAt, linkNumbersAt, pointNumbersAt, multiplierNumbersAt, demandNumbersAt, clauseNumbersAt, nodeNumbersWidth, linkNumbersWidth, pointNumbersWidth, recordWords, roomNumbers}
+use Rattle.scope.specs.Layout.{curveSlotsLong, demandSlotsLong, demandsLong, linkSlotsLong, nodeSlotsLong, nodesLong, patternSlotsLong, nodesAt, linksAt, curvesAt, pointsAt, patternsAt, multipliersAt, demandsAt, timesAt, rulesAt, clausesAt, nodeSlotsAt, linkSlotsAt, curveSlotsAt, patternSlotsAt, demandSlotsAt, nodesWidth, demandsWidth, timesWidth, rulesWidth, clausesWidth, nodeNumbersAt, linkNumbersAt, pointNumbersAt, multiplierNumbersAt, demandNumbersAt, clauseNumbersAt, nodeNumbersWidth, linkNumbersWidth, pointNumbersWidth, recordWords, roomNumbers}
 use Rattle.tables.specs.Adding.{nodeAdded, linkAdded, curveAdded, patternAdded, demandAdded}
 use Rattle.tables.specs.Holding.{Sits, SitsOr, optIn, MayFit, Each, Part, NodeFine, LinkFine, PointFine, MultiplierFine, DemandFine, RuleFine, ClauseFine, Owned, Known, Words, Numbers, Holds}
 use Rattle.tables.proofs.SlotLaws.{slots-same}

@@ -1,5 +1,4 @@
 -- `tables::find` meets its contract. Assumes nothing.
-use native.Mathlib.Omega.{arith}
 use denote.Ref.{now}
 use mathlib.Core.Path.{_∙_}
 use Rattle.scope.specs.Records.{idsOf}
