@@ -1,16 +1,15 @@
 -- A loop's count is the definition's. Assumes nothing.
-use Prim.Native.Nat.{ℕ, zero, suc, _+_, _-_, _≤_, _<_}
+use Prim.Native.Nat.{ℕ, suc, _+_, _-_, _≤_, _<_}
 use native.Mathlib.Omega.{arith}
 use mathlib.Core.Path.{_≡_, refl, sym, ap, _∙_}
-use mathlib.Core.Bool.{Bool, true, false, cond}
+use mathlib.Core.Bool.{Bool}
 use mathlib.Core.List.{List, [], _∷_, _++_}
 use lib.ListN.{length, getD, take, drop, length-drop}
 use lib.Seq.{take-suc, take-all, getD-drop, length-take-le}
 use Rattle.scope.specs.Records.{Clause, condition, action}
-use Rattle.scope.specs.Rules as rules
+use Rattle.scope.specs.Rules.{isCondition, isAction}
 use Rattle.stored.specs.Back.{clauseBack}
-use Rattle.parts.specs.Parts as parts
-use Rattle.parts.specs.Parts.{oneIf, howMany, between}
+use Rattle.parts.specs.Parts.{oneIf, howMany, between, isConditionOut}
 
 module _ {A : Type 0} (asked : A → Bool) where
   one-at-the-end : (xs : List A) (x : A) → howMany asked (xs ++ (x ∷ [])) ≡ howMany asked xs + oneIf (asked x)
@@ -36,15 +35,15 @@ module _ {A : Type 0} (asked : A → Bool) where
   all-of-them k xs n same e = e ∙ ap (howMany asked) (take-all (k - 0) xs (omega (arith, same)))
 
 -- ---- a clause is a condition or an action
-pub condition-back : (c : Clause) → parts.isCondition (clauseBack c) ≡ rules.isCondition c
+pub condition-back : (c : Clause) → isConditionOut (clauseBack c) ≡ isCondition c
 condition-back (condition c) = refl
 condition-back (action a) = refl
 
-one-of-two : (c : Clause) → oneIf (rules.isCondition c) + oneIf (rules.isAction c) ≡ 1
+one-of-two : (c : Clause) → oneIf (isCondition c) + oneIf (isAction c) ≡ 1
 one-of-two (condition c) = refl
 one-of-two (action a) = refl
 
-both : (cs : List Clause) → howMany rules.isCondition cs + howMany rules.isAction cs ≡ length cs
+both : (cs : List Clause) → howMany isCondition cs + howMany isAction cs ≡ length cs
 unfolding howMany
 both [] = refl
 both (c ∷ cs) = omega (arith, one-of-two c, both cs)
@@ -52,9 +51,9 @@ both (c ∷ cs) = omega (arith, one-of-two c, both cs)
 between-length : {A : Type 0} (first end : ℕ) (xs : List A) → end ≤ length xs → length (between first end xs) ≡ end - first
 between-length first end xs le = length-take-le (end - first) (drop first xs) (omega (arith, le, length-drop first xs))
 
-pub the-others : (first end : ℕ) (cs : List Clause) (n : ℕ) → end ≤ length cs → n ≡ howMany rules.isCondition (between first end cs) → (end - first) - n ≡ howMany rules.isAction (between first end cs)
+pub the-others : (first end : ℕ) (cs : List Clause) (n : ℕ) → end ≤ length cs → n ≡ howMany isCondition (between first end cs) → (end - first) - n ≡ howMany isAction (between first end cs)
 the-others first end cs n le e = omega (arith, e, both (between first end cs), between-length first end cs le)
 
-pub none-between : (first end : ℕ) (cs : List Clause) → end < first → 0 ≡ howMany rules.isAction (between first end cs)
+pub none-between : (first end : ℕ) (cs : List Clause) → end < first → 0 ≡ howMany isAction (between first end cs)
 unfolding howMany
 none-between first end cs less = let z : end - first ≡ 0 = omega arith in rw z

@@ -31,6 +31,6 @@ abbrev pub between : {A : Type 0} → ℕ → ℕ → List A → List A
 between first end xs = take (end - first) (drop first xs)
 
 -- a clause as the code has it
-abbrev pub isCondition : Clause → Bool
-isCondition (Condition c) = true
-isCondition (Action a) = false
+abbrev pub isConditionOut : Clause → Bool
+isConditionOut (Condition c) = true
+isConditionOut (Action a) = false

@@ -5,12 +5,10 @@ ghost use Prim.Native.Nat.{ℕ, _-_, _≤_};
 ghost use lib.ListN.{length, drop};
 ghost use Rattle.scope.specs.Layout.{recordWords};
 ghost use Rattle.scope.specs.Records.{Network, countsOf};
-ghost use Rattle.scope.specs.Rules.{isAction};
+ghost use Rattle.scope.specs.Rules.{isCondition, isAction};
 ghost use Rattle.scope.specs.Tables.{tallyWords};
 ghost use Rattle.stored.specs.Back.{Stands};
-ghost use Rattle.parts.specs.Parts.{oneIf, howMany, ofNode, ofCurve, ofPattern, between};
-ghost use Rattle.scope.specs.Rules as rules;
-ghost use Rattle.parts.specs.Parts as parts;
+ghost use Rattle.parts.specs.Parts.{oneIf, howMany, ofNode, ofCurve, ofPattern, between, isConditionOut};
 use stored::Clause;
 
 // What a record adds to the count of those for which something holds.
@@ -74,7 +72,7 @@ pub fn multipliers_of(words: &[u64], numbers: &[f64], pattern: usize) -> usize
 // ---- conditions and actions
 
 fn is_condition(clause: Clause) -> bool
-    ensures { λ r. ⌜ r ≡ parts.isCondition clause ⌝ }
+    ensures { λ r. ⌜ r ≡ isConditionOut clause ⌝ }
 {
     match clause {
         Clause::Condition(_) => true,
@@ -85,7 +83,7 @@ fn is_condition(clause: Clause) -> bool
 // The conditions among the clauses from place `first` up to `end`.
 pub fn conditions_between(words: &[u64], numbers: &[f64], first: usize, end: usize) -> usize
     ensures { λ r. ⌜ r ≤ end - first ⌝ }
-    ensures { λ r. ⌜ ((m : Network) → Stands m (now (words .entry)) (now (numbers .entry)) → end ≤ length (m .clauses) → r ≡ howMany rules.isCondition (between first end (m .clauses))) ⌝ }
+    ensures { λ r. ⌜ ((m : Network) → Stands m (now (words .entry)) (now (numbers .entry)) → end ≤ length (m .clauses) → r ≡ howMany isCondition (between first end (m .clauses))) ⌝ }
 {
     let mut n = 0;
     let mut k = first;

@@ -2,7 +2,6 @@ use Prim.Native.Nat.{_-_, _≤_}
 use native.Mathlib.Omega.{arith}
 use mathlib.Core.Path.{_≡_}
 use borrow.Author.Needs.{needs}
-use denote.Ref.{now}
 use lib.ListN.{length, getD}
 use Rattle.scope.specs.Records.{Network, noClause}
 use Rattle.scope.specs.Rules.{isCondition}
