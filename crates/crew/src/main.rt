@@ -1,18 +1,18 @@
 // The crew sheet: how often the rules close, open, activate and set links, by rule and by link, under THEN and under ELSE. What is refused is said first.
 ghost use Prim.Native.Nat.{_≤_};
 ghost use Rattle.scope.specs.Sections.{roomLines};
-use actions::Moves;
-use input::Input;
-use parts::one_if;
-use printing::decimal;
-use printing::newline;
-use printing::write;
+use program_input::Input;
 use scope::Survey;
+use sheet_actions::Moves;
+use stored_parts::one_if;
+use write_text::decimal;
+use write_text::newline;
+use write_text::write;
 
 // ---- whether the sheet is whole
 
 // A refused line has a reason, and so has the first line of a refused rule.
-fn refused(reasons: &[u8; tables::LINES_ROOM]) -> usize
+fn refused(reasons: &[u8; table_rows::LINES_ROOM]) -> usize
     ensures { λ r. ⌜ r ≤ roomLines ⌝ }
 {
     let mut n = 0;
@@ -23,7 +23,7 @@ fn refused(reasons: &[u8; tables::LINES_ROOM]) -> usize
 }
 
 // The lines and rules that are refused, and the rule that is open at the end.
-fn missing_pieces(s: Survey, reasons: &[u8; tables::LINES_ROOM]) -> usize {
+fn missing_pieces(s: Survey, reasons: &[u8; table_rows::LINES_ROOM]) -> usize {
     refused(reasons) + one_if(s.ruleopen != 0)
 }
 
@@ -76,7 +76,7 @@ fn heading(of: &[u8]) {
 
 // The number of the line that has the byte at `at`.
 fn line_of(text: &[u8], at: usize) -> usize {
-    let before = letters::cut(text, 0, at);
+    let before = leaf_letters::cut(text, 0, at);
     let mut n = 0;
     let mut k = 0;
     while k < before.len() {
@@ -88,20 +88,20 @@ fn line_of(text: &[u8], at: usize) -> usize {
 
 fn show_rule(text: &[u8], words: &[u64], numbers: &[f64], i: usize) {
     row(
-        moves::rule_moves(words, numbers, i, false),
-        moves::rule_moves(words, numbers, i, true),
+        sheet_moves::rule_moves(words, numbers, i, false),
+        sheet_moves::rule_moves(words, numbers, i, true),
     );
-    let rule = stored::rule_at(words, i);
+    let rule = stored_records::rule_at(words, i);
     let id = rule.id;
     write(b"  rule ");
-    printing::plain(fields::letters_of(text, id));
+    write_text::plain(leaf_fields::letters_of(text, id));
     write(b", which starts at line ");
     decimal(line_of(text, id.at) as u64);
     newline();
 }
 
 fn show_rules(text: &[u8], words: &[u64], numbers: &[f64]) {
-    let counts = storedcounts::counts_at(words);
+    let counts = stored_counts::counts_at(words);
     let all = counts.rules;
     let mut i = 0;
     while i < all {
@@ -126,23 +126,23 @@ fn is_none(n: Moves) -> bool {
 }
 
 fn has_no_action(words: &[u64], numbers: &[f64], i: usize) -> bool {
-    if is_none(moves::link_moves(words, numbers, i, false)) {
-        return is_none(moves::link_moves(words, numbers, i, true));
+    if is_none(sheet_moves::link_moves(words, numbers, i, false)) {
+        return is_none(sheet_moves::link_moves(words, numbers, i, true));
     }
     false
 }
 
 fn show_moved(text: &[u8], words: &[u64], numbers: &[f64], i: usize) {
     row(
-        moves::link_moves(words, numbers, i, false),
-        moves::link_moves(words, numbers, i, true),
+        sheet_moves::link_moves(words, numbers, i, false),
+        sheet_moves::link_moves(words, numbers, i, true),
     );
-    let link = stored::link_at(words, numbers, i);
+    let link = stored_records::link_at(words, numbers, i);
     let id = link.id;
     write(b"  link ");
-    printing::plain(fields::letters_of(text, id));
+    write_text::plain(leaf_fields::letters_of(text, id));
     write(b", moves of a crew: ");
-    decimal(moves::link_made(words, numbers, i) as u64);
+    decimal(sheet_moves::link_made(words, numbers, i) as u64);
     newline();
 }
 
@@ -159,7 +159,7 @@ fn show_link(text: &[u8], words: &[u64], numbers: &[f64], i: usize) -> u64
 
 // How many are left out.
 fn show_links(text: &[u8], words: &[u64], numbers: &[f64]) -> u64 {
-    let counts = storedcounts::counts_at(words);
+    let counts = stored_counts::counts_at(words);
     let all = counts.links;
     let mut left = 0;
     let mut i = 0;
@@ -173,8 +173,8 @@ fn show_links(text: &[u8], words: &[u64], numbers: &[f64]) -> u64 {
 // ---- all rules
 
 fn show_sums(words: &[u64], numbers: &[f64]) {
-    let then = moves::all_moves(words, numbers, false);
-    let otherwise = moves::all_moves(words, numbers, true);
+    let then = sheet_moves::all_moves(words, numbers, false);
+    let otherwise = sheet_moves::all_moves(words, numbers, true);
     let closes = then.closes + otherwise.closes;
     let opens = then.opens + otherwise.opens;
     let activates = then.activates + otherwise.activates;
@@ -193,7 +193,7 @@ fn show_sums(words: &[u64], numbers: &[f64]) {
 
 fn show_made(words: &[u64], numbers: &[f64]) {
     write(b"Moves of a crew that opens every closure again: ");
-    decimal(moves::all_made(words, numbers) as u64);
+    decimal(sheet_moves::all_made(words, numbers) as u64);
     newline();
     write(
         b"    At each link its closings, and its openings or as many as its closings, whichever are more.\n",
@@ -223,12 +223,12 @@ fn show_warned(text: &[u8], words: &[u64], numbers: &[f64], missing: usize) {
 // ---- the program
 
 fn show(text: &[u8]) {
-    let mut words = [0u64; tables::WORDS_ROOM];
-    let mut numbers = [0.0f64; tables::NUMBERS_ROOM];
-    let mut classes = [0u8; tables::LINES_ROOM];
-    let mut reasons = [0u8; tables::LINES_ROOM];
-    let s = surveying::read_survey(text, &mut words, &mut numbers, &mut classes, &mut reasons);
-    explain::show_survey(text, s, &classes, &reasons);
+    let mut words = [0u64; table_rows::WORDS_ROOM];
+    let mut numbers = [0.0f64; table_rows::NUMBERS_ROOM];
+    let mut classes = [0u8; table_rows::LINES_ROOM];
+    let mut reasons = [0u8; table_rows::LINES_ROOM];
+    let s = read_survey::read_survey(text, &mut words, &mut numbers, &mut classes, &mut reasons);
+    write_reasons::show_survey(text, s, &classes, &reasons);
     if s.number == 0 {
         let missing = missing_pieces(s, &reasons);
         show_warned(text, &words, &numbers, missing);
@@ -258,15 +258,15 @@ fn show_help() {
 }
 
 fn run() {
-    let mut buffer = [0u8; input::TEXT_ROOM];
-    let read = input::read_argument(b"crew", 1, &mut buffer);
+    let mut buffer = [0u8; program_input::TEXT_ROOM];
+    let read = program_input::read_argument(b"crew", 1, &mut buffer);
     if let Input::Read(n) = read {
-        show(letters::cut(&buffer, 0, n));
+        show(leaf_letters::cut(&buffer, 0, n));
     }
 }
 
 fn main() {
-    if input::argument_is(1, b"--help") {
+    if program_input::argument_is(1, b"--help") {
         show_help();
         return;
     }

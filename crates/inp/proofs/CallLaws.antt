@@ -7,7 +7,7 @@ use lib.ListN.{length}
 use lib.Ieee.{Float}
 use Rattle.scope.specs.declared.Survey.{Survey}
 use Rattle.scope.specs.Reading.{surveyAnswer, surveyWords, surveyNumbers, surveyClasses, surveyReasons}
-use Rattle.tables.specs.Table.{splice}
+use Rattle.table_rows.specs.Table.{splice}
 use Rattle.inp.specs.Calls.{countWords, numberOf, countsAfter, wordsAfter, numbersAfter, classesAfter, reasonsAfter}
 
 -- of what a survey promises, the part that a caller in C is told

@@ -1,4 +1,4 @@
--- A survey by pointers and lengths: what `reading::read_survey` gives, with its counts in a fifth table, which may be too small as well. Assumes nothing.
+-- A survey by pointers and lengths: what `read_strict::read_survey` gives, with its counts in a fifth table, which may be too small as well. Assumes nothing.
 use Prim.Native.Nat.{ℕ}
 use mathlib.Core.Bool.{Bool, cond}
 use mathlib.Core.List.{List, [], _∷_}
@@ -7,7 +7,7 @@ use lib.Dec.{eqb, ltb}
 use lib.Ieee.{Float}
 use Rattle.scope.specs.declared.Survey.{Survey}
 use Rattle.scope.specs.Reading.{surveyAnswer, surveyWords, surveyNumbers, surveyClasses, surveyReasons}
-use Rattle.tables.specs.Table.{splice}
+use Rattle.table_rows.specs.Table.{splice}
 
 -- how many lines, and how many of each class
 abbrev pub countWords : Survey → List ℕ

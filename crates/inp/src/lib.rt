@@ -22,7 +22,7 @@ pub extern "C" fn inp_read_strict(
         × (now (words .exit) ≡ strictWords (now (text .entry)) (now (words .entry)) (length (now (numbers .entry))))
         × (now (numbers .exit) ≡ strictNumbers (now (text .entry)) (length (now (words .entry))) (now (numbers .entry))) ⌝ }
 {
-    let answer = reading::read_strict(text, words, numbers);
+    let answer = read_strict::read_strict(text, words, numbers);
     *line = answer.line as u64;
     answer.number as u64
 }
@@ -47,7 +47,7 @@ pub extern "C" fn inp_read_survey(
     if counts.len() < COUNTS {
         return SMALL;
     }
-    let s = surveying::read_survey(text, words, numbers, classes, reasons);
+    let s = read_survey::read_survey(text, words, numbers, classes, reasons);
     let number = s.number as u64;
     if number == SMALL {
         return SMALL;
@@ -63,6 +63,6 @@ pub extern "C" fn inp_read_survey(
         s.rulerefused as u64,
         s.ruleopen as u64,
     ];
-    tables::paste_words(counts, 0, &rec);
+    table_rows::paste_words(counts, 0, &rec);
     number
 }

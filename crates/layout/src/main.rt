@@ -26,11 +26,11 @@ fn room_long(x: Room) -> usize
     ensures { λ r. ⌜ r ≡ roomLong x ⌝ }
 {
     match x {
-        Room::Text => tables::TEXT_ROOM,
-        Room::Words => tables::WORDS_ROOM,
-        Room::Numbers => tables::NUMBERS_ROOM,
-        Room::Classes => tables::LINES_ROOM,
-        Room::Reasons => tables::LINES_ROOM,
+        Room::Text => table_rows::TEXT_ROOM,
+        Room::Words => table_rows::WORDS_ROOM,
+        Room::Numbers => table_rows::NUMBERS_ROOM,
+        Room::Classes => table_rows::LINES_ROOM,
+        Room::Reasons => table_rows::LINES_ROOM,
     }
 }
 
@@ -65,16 +65,16 @@ fn region_at(x: Region) -> usize
     ensures { λ r. ⌜ r ≡ regionAt x ⌝ }
 {
     match x {
-        Region::Nodes => tables::NODES_AT,
-        Region::Links => tables::LINKS_AT,
-        Region::Curves => tables::CURVES_AT,
-        Region::Points => tables::POINTS_AT,
-        Region::Patterns => tables::PATTERNS_AT,
-        Region::Multipliers => tables::MULTIPLIERS_AT,
-        Region::Demands => tables::DEMANDS_AT,
-        Region::Times => tables::TIMES_AT,
-        Region::Rules => tables::RULES_AT,
-        Region::Clauses => tables::CLAUSES_AT,
+        Region::Nodes => table_rows::NODES_AT,
+        Region::Links => table_rows::LINKS_AT,
+        Region::Curves => table_rows::CURVES_AT,
+        Region::Points => table_rows::POINTS_AT,
+        Region::Patterns => table_rows::PATTERNS_AT,
+        Region::Multipliers => table_rows::MULTIPLIERS_AT,
+        Region::Demands => table_rows::DEMANDS_AT,
+        Region::Times => table_rows::TIMES_AT,
+        Region::Rules => table_rows::RULES_AT,
+        Region::Clauses => table_rows::CLAUSES_AT,
     }
 }
 
@@ -82,16 +82,16 @@ fn region_width(x: Region) -> usize
     ensures { λ r. ⌜ r ≡ regionWidth x ⌝ }
 {
     match x {
-        Region::Nodes => tables::NODES_WIDTH,
-        Region::Links => tables::LINKS_WIDTH,
-        Region::Curves => tables::CURVES_WIDTH,
-        Region::Points => tables::POINTS_WIDTH,
-        Region::Patterns => tables::PATTERNS_WIDTH,
-        Region::Multipliers => tables::MULTIPLIERS_WIDTH,
-        Region::Demands => tables::DEMANDS_WIDTH,
-        Region::Times => tables::TIMES_WIDTH,
-        Region::Rules => tables::RULES_WIDTH,
-        Region::Clauses => tables::CLAUSES_WIDTH,
+        Region::Nodes => table_rows::NODES_WIDTH,
+        Region::Links => table_rows::LINKS_WIDTH,
+        Region::Curves => table_rows::CURVES_WIDTH,
+        Region::Points => table_rows::POINTS_WIDTH,
+        Region::Patterns => table_rows::PATTERNS_WIDTH,
+        Region::Multipliers => table_rows::MULTIPLIERS_WIDTH,
+        Region::Demands => table_rows::DEMANDS_WIDTH,
+        Region::Times => table_rows::TIMES_WIDTH,
+        Region::Rules => table_rows::RULES_WIDTH,
+        Region::Clauses => table_rows::CLAUSES_WIDTH,
     }
 }
 
@@ -99,16 +99,16 @@ fn region_most(x: Region) -> usize
     ensures { λ r. ⌜ r ≡ regionMost x ⌝ }
 {
     match x {
-        Region::Nodes => tables::NODES_MOST,
-        Region::Links => tables::LINKS_MOST,
-        Region::Curves => tables::CURVES_MOST,
-        Region::Points => tables::POINTS_MOST,
-        Region::Patterns => tables::PATTERNS_MOST,
-        Region::Multipliers => tables::MULTIPLIERS_MOST,
-        Region::Demands => tables::DEMANDS_MOST,
-        Region::Times => tables::TIMES_MOST,
-        Region::Rules => tables::RULES_MOST,
-        Region::Clauses => tables::CLAUSES_MOST,
+        Region::Nodes => table_rows::NODES_MOST,
+        Region::Links => table_rows::LINKS_MOST,
+        Region::Curves => table_rows::CURVES_MOST,
+        Region::Points => table_rows::POINTS_MOST,
+        Region::Patterns => table_rows::PATTERNS_MOST,
+        Region::Multipliers => table_rows::MULTIPLIERS_MOST,
+        Region::Demands => table_rows::DEMANDS_MOST,
+        Region::Times => table_rows::TIMES_MOST,
+        Region::Rules => table_rows::RULES_MOST,
+        Region::Clauses => table_rows::CLAUSES_MOST,
     }
 }
 
@@ -146,12 +146,12 @@ fn numbers_at(x: Numbers) -> usize
     ensures { λ r. ⌜ r ≡ numbersAt x ⌝ }
 {
     match x {
-        Numbers::Node => tables::NODE_NUMBERS_AT,
-        Numbers::Link => tables::LINK_NUMBERS_AT,
-        Numbers::Point => tables::POINT_NUMBERS_AT,
-        Numbers::Multiplier => tables::MULTIPLIER_NUMBERS_AT,
-        Numbers::Demand => tables::DEMAND_NUMBERS_AT,
-        Numbers::Clause => tables::CLAUSE_NUMBERS_AT,
+        Numbers::Node => table_rows::NODE_NUMBERS_AT,
+        Numbers::Link => table_rows::LINK_NUMBERS_AT,
+        Numbers::Point => table_rows::POINT_NUMBERS_AT,
+        Numbers::Multiplier => table_rows::MULTIPLIER_NUMBERS_AT,
+        Numbers::Demand => table_rows::DEMAND_NUMBERS_AT,
+        Numbers::Clause => table_rows::CLAUSE_NUMBERS_AT,
     }
 }
 
@@ -159,12 +159,12 @@ fn numbers_width(x: Numbers) -> usize
     ensures { λ r. ⌜ r ≡ numbersWidth x ⌝ }
 {
     match x {
-        Numbers::Node => tables::NODE_NUMBERS_WIDTH,
-        Numbers::Link => tables::LINK_NUMBERS_WIDTH,
-        Numbers::Point => tables::POINT_NUMBERS_WIDTH,
-        Numbers::Multiplier => tables::MULTIPLIER_NUMBERS_WIDTH,
-        Numbers::Demand => tables::DEMAND_NUMBERS_WIDTH,
-        Numbers::Clause => tables::CLAUSE_NUMBERS_WIDTH,
+        Numbers::Node => table_rows::NODE_NUMBERS_WIDTH,
+        Numbers::Link => table_rows::LINK_NUMBERS_WIDTH,
+        Numbers::Point => table_rows::POINT_NUMBERS_WIDTH,
+        Numbers::Multiplier => table_rows::MULTIPLIER_NUMBERS_WIDTH,
+        Numbers::Demand => table_rows::DEMAND_NUMBERS_WIDTH,
+        Numbers::Clause => table_rows::CLAUSE_NUMBERS_WIDTH,
     }
 }
 
@@ -202,17 +202,17 @@ fn count_place(x: Count) -> usize
     ensures { λ r. ⌜ r ≡ countPlace x ⌝ }
 {
     match x {
-        Count::CountsAt => tables::COUNTS_AT,
-        Count::CountsWidth => tables::COUNTS_WIDTH,
-        Count::CountNodes => tables::COUNT_NODES,
-        Count::CountLinks => tables::COUNT_LINKS,
-        Count::CountCurves => tables::COUNT_CURVES,
-        Count::CountPoints => tables::COUNT_POINTS,
-        Count::CountPatterns => tables::COUNT_PATTERNS,
-        Count::CountMultipliers => tables::COUNT_MULTIPLIERS,
-        Count::CountDemands => tables::COUNT_DEMANDS,
-        Count::CountRules => tables::COUNT_RULES,
-        Count::CountClauses => tables::COUNT_CLAUSES,
+        Count::CountsAt => table_rows::COUNTS_AT,
+        Count::CountsWidth => table_rows::COUNTS_WIDTH,
+        Count::CountNodes => table_rows::COUNT_NODES,
+        Count::CountLinks => table_rows::COUNT_LINKS,
+        Count::CountCurves => table_rows::COUNT_CURVES,
+        Count::CountPoints => table_rows::COUNT_POINTS,
+        Count::CountPatterns => table_rows::COUNT_PATTERNS,
+        Count::CountMultipliers => table_rows::COUNT_MULTIPLIERS,
+        Count::CountDemands => table_rows::COUNT_DEMANDS,
+        Count::CountRules => table_rows::COUNT_RULES,
+        Count::CountClauses => table_rows::COUNT_CLAUSES,
     }
 }
 
@@ -250,13 +250,13 @@ fn node_word_place(x: NodeWord) -> usize
     ensures { λ r. ⌜ r ≡ nodeWordPlace x ⌝ }
 {
     match x {
-        NodeWord::IdPlace => tables::ID_PLACE,
-        NodeWord::IdLength => tables::ID_LENGTH,
-        NodeWord::Kind => tables::NODE_KIND,
-        NodeWord::NamePlace => tables::NODE_NAME + tables::NAME_PLACE,
-        NodeWord::NameLength => tables::NODE_NAME + tables::NAME_LENGTH,
-        NodeWord::Detail => tables::NODE_DETAIL,
-        NodeWord::Placed => tables::NODE_PLACED,
+        NodeWord::IdPlace => table_rows::ID_PLACE,
+        NodeWord::IdLength => table_rows::ID_LENGTH,
+        NodeWord::Kind => table_rows::NODE_KIND,
+        NodeWord::NamePlace => table_rows::NODE_NAME + table_rows::NAME_PLACE,
+        NodeWord::NameLength => table_rows::NODE_NAME + table_rows::NAME_LENGTH,
+        NodeWord::Detail => table_rows::NODE_DETAIL,
+        NodeWord::Placed => table_rows::NODE_PLACED,
     }
 }
 
@@ -292,15 +292,15 @@ fn node_number_place(x: NodeNumber) -> usize
     ensures { λ r. ⌜ r ≡ nodeNumberPlace x ⌝ }
 {
     match x {
-        NodeNumber::NodeElevation => tables::NODE_ELEVATION,
-        NodeNumber::JunctionEmitter => tables::JUNCTION_EMITTER,
-        NodeNumber::TankInitialLevel => tables::TANK_INITIAL_LEVEL,
-        NodeNumber::TankMinimumLevel => tables::TANK_MINIMUM_LEVEL,
-        NodeNumber::TankMaximumLevel => tables::TANK_MAXIMUM_LEVEL,
-        NodeNumber::TankDiameter => tables::TANK_DIAMETER,
-        NodeNumber::TankMinimumVolume => tables::TANK_MINIMUM_VOLUME,
-        NodeNumber::NodeX => tables::NODE_X,
-        NodeNumber::NodeY => tables::NODE_Y,
+        NodeNumber::NodeElevation => table_rows::NODE_ELEVATION,
+        NodeNumber::JunctionEmitter => table_rows::JUNCTION_EMITTER,
+        NodeNumber::TankInitialLevel => table_rows::TANK_INITIAL_LEVEL,
+        NodeNumber::TankMinimumLevel => table_rows::TANK_MINIMUM_LEVEL,
+        NodeNumber::TankMaximumLevel => table_rows::TANK_MAXIMUM_LEVEL,
+        NodeNumber::TankDiameter => table_rows::TANK_DIAMETER,
+        NodeNumber::TankMinimumVolume => table_rows::TANK_MINIMUM_VOLUME,
+        NodeNumber::NodeX => table_rows::NODE_X,
+        NodeNumber::NodeY => table_rows::NODE_Y,
     }
 }
 
@@ -335,12 +335,12 @@ fn link_word_place(x: LinkWord) -> usize
     ensures { λ r. ⌜ r ≡ linkWordPlace x ⌝ }
 {
     match x {
-        LinkWord::Start => tables::LINK_START,
-        LinkWord::End => tables::LINK_END,
-        LinkWord::Kind => tables::LINK_KIND,
-        LinkWord::Detail => tables::LINK_DETAIL,
-        LinkWord::NamePlace => tables::LINK_NAME + tables::NAME_PLACE,
-        LinkWord::NameLength => tables::LINK_NAME + tables::NAME_LENGTH,
+        LinkWord::Start => table_rows::LINK_START,
+        LinkWord::End => table_rows::LINK_END,
+        LinkWord::Kind => table_rows::LINK_KIND,
+        LinkWord::Detail => table_rows::LINK_DETAIL,
+        LinkWord::NamePlace => table_rows::LINK_NAME + table_rows::NAME_PLACE,
+        LinkWord::NameLength => table_rows::LINK_NAME + table_rows::NAME_LENGTH,
     }
 }
 
@@ -375,15 +375,15 @@ fn link_number_place(x: LinkNumber) -> usize
     ensures { λ r. ⌜ r ≡ linkNumberPlace x ⌝ }
 {
     match x {
-        LinkNumber::PipeLength => tables::PIPE_LENGTH,
-        LinkNumber::PipeDiameter => tables::PIPE_DIAMETER,
-        LinkNumber::PipeRoughness => tables::PIPE_ROUGHNESS,
-        LinkNumber::PipeMinorLoss => tables::PIPE_MINOR_LOSS,
-        LinkNumber::PumpSpeed => tables::PUMP_SPEED,
-        LinkNumber::PumpPower => tables::PUMP_POWER,
-        LinkNumber::ValveSetting => tables::VALVE_SETTING,
-        LinkNumber::ValveDiameter => tables::VALVE_DIAMETER,
-        LinkNumber::ValveMinorLoss => tables::VALVE_MINOR_LOSS,
+        LinkNumber::PipeLength => table_rows::PIPE_LENGTH,
+        LinkNumber::PipeDiameter => table_rows::PIPE_DIAMETER,
+        LinkNumber::PipeRoughness => table_rows::PIPE_ROUGHNESS,
+        LinkNumber::PipeMinorLoss => table_rows::PIPE_MINOR_LOSS,
+        LinkNumber::PumpSpeed => table_rows::PUMP_SPEED,
+        LinkNumber::PumpPower => table_rows::PUMP_POWER,
+        LinkNumber::ValveSetting => table_rows::VALVE_SETTING,
+        LinkNumber::ValveDiameter => table_rows::VALVE_DIAMETER,
+        LinkNumber::ValveMinorLoss => table_rows::VALVE_MINOR_LOSS,
     }
 }
 
@@ -421,15 +421,15 @@ fn series_place(x: Series) -> usize
     ensures { λ r. ⌜ r ≡ seriesPlace x ⌝ }
 {
     match x {
-        Series::PointX => tables::POINT_X,
-        Series::PointY => tables::POINT_Y,
-        Series::DemandNode => tables::DEMAND_NODE,
-        Series::DemandOwn => tables::DEMAND_OWN,
-        Series::DemandNamePlace => tables::DEMAND_NAME + tables::NAME_PLACE,
-        Series::DemandNameLength => tables::DEMAND_NAME + tables::NAME_LENGTH,
-        Series::DemandIndex => tables::DEMAND_INDEX,
-        Series::TimeSet => tables::TIME_SET,
-        Series::TimeSeconds => tables::TIME_SECONDS,
+        Series::PointX => table_rows::POINT_X,
+        Series::PointY => table_rows::POINT_Y,
+        Series::DemandNode => table_rows::DEMAND_NODE,
+        Series::DemandOwn => table_rows::DEMAND_OWN,
+        Series::DemandNamePlace => table_rows::DEMAND_NAME + table_rows::NAME_PLACE,
+        Series::DemandNameLength => table_rows::DEMAND_NAME + table_rows::NAME_LENGTH,
+        Series::DemandIndex => table_rows::DEMAND_INDEX,
+        Series::TimeSet => table_rows::TIME_SET,
+        Series::TimeSeconds => table_rows::TIME_SECONDS,
     }
 }
 
@@ -462,10 +462,10 @@ fn rule_word_place(x: RuleWord) -> usize
     ensures { λ r. ⌜ r ≡ ruleWordPlace x ⌝ }
 {
     match x {
-        RuleWord::First => tables::RULE_FIRST,
-        RuleWord::Count => tables::RULE_COUNT,
-        RuleWord::PrioritySet => tables::RULE_PRIORITY_SET,
-        RuleWord::Priority => tables::RULE_PRIORITY,
+        RuleWord::First => table_rows::RULE_FIRST,
+        RuleWord::Count => table_rows::RULE_COUNT,
+        RuleWord::PrioritySet => table_rows::RULE_PRIORITY_SET,
+        RuleWord::Priority => table_rows::RULE_PRIORITY,
     }
 }
 
@@ -498,15 +498,15 @@ fn clause_word_place(x: ClauseWord) -> usize
     ensures { λ r. ⌜ r ≡ clauseWordPlace x ⌝ }
 {
     match x {
-        ClauseWord::Kind => tables::CLAUSE_KIND,
-        ClauseWord::Status => tables::CLAUSE_STATUS,
-        ClauseWord::NamePlace => tables::CLAUSE_NAME + tables::NAME_PLACE,
-        ClauseWord::NameLength => tables::CLAUSE_NAME + tables::NAME_LENGTH,
-        ClauseWord::ConditionOperator => tables::CONDITION_OPERATOR,
-        ClauseWord::ConditionTarget => tables::CONDITION_TARGET,
-        ClauseWord::ConditionComparison => tables::CONDITION_COMPARISON,
-        ClauseWord::ActionElse => tables::ACTION_ELSE,
-        ClauseWord::ActionLink => tables::ACTION_LINK,
+        ClauseWord::Kind => table_rows::CLAUSE_KIND,
+        ClauseWord::Status => table_rows::CLAUSE_STATUS,
+        ClauseWord::NamePlace => table_rows::CLAUSE_NAME + table_rows::NAME_PLACE,
+        ClauseWord::NameLength => table_rows::CLAUSE_NAME + table_rows::NAME_LENGTH,
+        ClauseWord::ConditionOperator => table_rows::CONDITION_OPERATOR,
+        ClauseWord::ConditionTarget => table_rows::CONDITION_TARGET,
+        ClauseWord::ConditionComparison => table_rows::CONDITION_COMPARISON,
+        ClauseWord::ActionElse => table_rows::ACTION_ELSE,
+        ClauseWord::ActionLink => table_rows::ACTION_LINK,
     }
 }
 
@@ -546,17 +546,17 @@ fn inner_place(x: Inner) -> usize
     ensures { λ r. ⌜ r ≡ innerPlace x ⌝ }
 {
     match x {
-        Inner::LinesRoom => tables::LINES_ROOM,
-        Inner::IdKey => tables::ID_KEY,
-        Inner::IdWidth => tables::ID_WIDTH,
-        Inner::NamePlace => tables::NAME_PLACE,
-        Inner::NameLength => tables::NAME_LENGTH,
-        Inner::NameWidth => tables::NAME_WIDTH,
-        Inner::NodeName => tables::NODE_NAME,
-        Inner::LinkName => tables::LINK_NAME,
-        Inner::DemandName => tables::DEMAND_NAME,
-        Inner::ClauseName => tables::CLAUSE_NAME,
-        Inner::RecordWords => tables::RECORD_WORDS,
+        Inner::LinesRoom => table_rows::LINES_ROOM,
+        Inner::IdKey => table_rows::ID_KEY,
+        Inner::IdWidth => table_rows::ID_WIDTH,
+        Inner::NamePlace => table_rows::NAME_PLACE,
+        Inner::NameLength => table_rows::NAME_LENGTH,
+        Inner::NameWidth => table_rows::NAME_WIDTH,
+        Inner::NodeName => table_rows::NODE_NAME,
+        Inner::LinkName => table_rows::LINK_NAME,
+        Inner::DemandName => table_rows::DEMAND_NAME,
+        Inner::ClauseName => table_rows::CLAUSE_NAME,
+        Inner::RecordWords => table_rows::RECORD_WORDS,
     }
 }
 
@@ -594,13 +594,13 @@ fn slots_place(x: Slots) -> usize
     ensures { λ r. ⌜ r ≡ slotsPlace x ⌝ }
 {
     match x {
-        Slots::NodeSlotsAt => tables::NODE_SLOTS_AT,
-        Slots::LinkSlotsAt => tables::LINK_SLOTS_AT,
-        Slots::CurveSlotsAt => tables::CURVE_SLOTS_AT,
-        Slots::PatternSlotsAt => tables::PATTERN_SLOTS_AT,
-        Slots::DemandSlotsAt => tables::DEMAND_SLOTS_AT,
-        Slots::SlotsMost => tables::SLOTS_MOST,
-        Slots::DemandSlotsMost => tables::DEMAND_SLOTS_MOST,
+        Slots::NodeSlotsAt => table_rows::NODE_SLOTS_AT,
+        Slots::LinkSlotsAt => table_rows::LINK_SLOTS_AT,
+        Slots::CurveSlotsAt => table_rows::CURVE_SLOTS_AT,
+        Slots::PatternSlotsAt => table_rows::PATTERN_SLOTS_AT,
+        Slots::DemandSlotsAt => table_rows::DEMAND_SLOTS_AT,
+        Slots::SlotsMost => table_rows::SLOTS_MOST,
+        Slots::DemandSlotsMost => table_rows::DEMAND_SLOTS_MOST,
     }
 }
 

@@ -3,10 +3,10 @@ use mathlib.Core.Bool.{false}
 use Prim.Native.Nat.{ℕ}
 use lib.IntN.{pos}
 use lib.Ieee.{Float, fin}
-use Rattle.decimals.specs.declared.Number.{Number}
-use Rattle.decimals.specs.declared.Number.the-variants.{Value, Malformed, Beyond}
-use Rattle.counts.specs.declared.Count.{Count}
-use Rattle.counts.specs.declared.Count.the-variants.{Whole, Uncounted}
+use Rattle.leaf_decimals.specs.declared.Number.{Number}
+use Rattle.leaf_decimals.specs.declared.Number.the-variants.{Value, Malformed, Beyond}
+use Rattle.leaf_counts.specs.declared.Count.{Count}
+use Rattle.leaf_counts.specs.declared.Count.the-variants.{Whole, Uncounted}
 
 abbrev pub valueIn : Number → Float
 valueIn (Value x) = x

@@ -1,19 +1,19 @@
 // The leaves that a Rust program links, to compare them with the Rust readers: each hands out document 01's number, and writes the value.
 ghost use mathlib.Core.Path.{_≡_};
-ghost use Rattle.decimals.specs.Numbers.{numberOf, numberAnswer};
-ghost use Rattle.counts.specs.Counts.{countOf, countAnswer};
-ghost use Rattle.clock.specs.Times.{timeOf, timeAnswer, secondsIn};
+ghost use Rattle.leaf_decimals.specs.Numbers.{numberOf, numberAnswer};
+ghost use Rattle.leaf_counts.specs.Counts.{countOf, countAnswer};
+ghost use Rattle.leaf_clock.specs.Times.{timeOf, timeAnswer, secondsIn};
 ghost use Rattle.leaves.specs.Values.{valueIn, wholeIn};
-use clock::Time;
-use counts::Count;
-use decimals::Number;
+use leaf_clock::Time;
+use leaf_counts::Count;
+use leaf_decimals::Number;
 
 #[no_mangle]
 pub extern "C" fn leaf_number(s: &[u8], out: &mut f64) -> u64
     ensures answer { λ r. ⌜ r ≡ numberAnswer (numberOf (now (s .entry))) ⌝ }
     ensures value { λ _. ⌜ now (out .exit) ≡ valueIn (numberOf (now (s .entry))) ⌝ }
 {
-    let n = decimals::read_number(s);
+    let n = leaf_decimals::read_number(s);
     match n {
         Number::Value(x) => {
             *out = x;
@@ -35,7 +35,7 @@ pub extern "C" fn leaf_count(s: &[u8], out: &mut u64) -> u64
     ensures answer { λ r. ⌜ r ≡ countAnswer (countOf (now (s .entry))) ⌝ }
     ensures value { λ _. ⌜ now (out .exit) ≡ wholeIn (countOf (now (s .entry))) ⌝ }
 {
-    let n = counts::read_count(s);
+    let n = leaf_counts::read_count(s);
     match n {
         Count::Whole(x) => {
             *out = x;
@@ -53,7 +53,7 @@ pub extern "C" fn leaf_time(time: &[u8], unit: &[u8], out: &mut u64) -> u64
     ensures answer { λ r. ⌜ r ≡ timeAnswer (timeOf (now (time .entry)) (now (unit .entry))) ⌝ }
     ensures value { λ _. ⌜ now (out .exit) ≡ secondsIn (timeOf (now (time .entry)) (now (unit .entry))) ⌝ }
 {
-    let t = clock::read_time(time, unit);
+    let t = leaf_clock::read_time(time, unit);
     match t {
         Time::Seconds(x) => {
             *out = x;

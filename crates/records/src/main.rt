@@ -1,8 +1,8 @@
 // Reads a text strictly or as a survey, and prints every record that is stored: docs/DUMP.md has the form.
-use input::Input;
-use printing::count;
-use printing::newline;
-use printing::write;
+use program_input::Input;
+use write_text::count;
+use write_text::newline;
+use write_text::write;
 
 fn show_answer(answer: u8, line: usize) {
     write(b"answer");
@@ -13,12 +13,12 @@ fn show_answer(answer: u8, line: usize) {
 }
 
 fn show_network(text: &[u8], words: &[u64], numbers: &[f64]) {
-    shownodes::show_nodes(text, words, numbers);
-    showlinks::show_links(text, words, numbers);
-    showseries::show_curves(text, words, numbers);
-    showseries::show_patterns(text, words, numbers);
-    showseries::show_times(words);
-    showrules::show_rules(text, words, numbers);
+    write_nodes::show_nodes(text, words, numbers);
+    write_links::show_links(text, words, numbers);
+    write_series::show_curves(text, words, numbers);
+    write_series::show_patterns(text, words, numbers);
+    write_series::show_times(words);
+    write_rules::show_rules(text, words, numbers);
 }
 
 fn show_line(line: usize, class: u8, reason: u8) {
@@ -32,13 +32,13 @@ fn show_line(line: usize, class: u8, reason: u8) {
 }
 
 fn show_lines(
-    classes: &[u8; tables::LINES_ROOM],
-    reasons: &[u8; tables::LINES_ROOM],
+    classes: &[u8; table_rows::LINES_ROOM],
+    reasons: &[u8; table_rows::LINES_ROOM],
     lines: usize,
 ) {
     let mut i = 0;
     while i < lines {
-        if i < tables::LINES_ROOM {
+        if i < table_rows::LINES_ROOM {
             show_line(i + 1, classes[i], reasons[i]);
         }
         i += 1;
@@ -46,22 +46,22 @@ fn show_lines(
 }
 
 fn show_strict(text: &[u8]) {
-    let mut words = [0u64; tables::WORDS_ROOM];
-    let mut numbers = [0.0f64; tables::NUMBERS_ROOM];
-    let a = reading::read_strict(text, &mut words, &mut numbers);
+    let mut words = [0u64; table_rows::WORDS_ROOM];
+    let mut numbers = [0.0f64; table_rows::NUMBERS_ROOM];
+    let a = read_strict::read_strict(text, &mut words, &mut numbers);
     show_answer(a.number, a.line);
     show_network(text, &words, &numbers);
 }
 
 fn show_survey(text: &[u8]) {
-    let mut words = [0u64; tables::WORDS_ROOM];
-    let mut numbers = [0.0f64; tables::NUMBERS_ROOM];
-    let mut classes = [0u8; tables::LINES_ROOM];
-    let mut reasons = [0u8; tables::LINES_ROOM];
-    let s = surveying::read_survey(text, &mut words, &mut numbers, &mut classes, &mut reasons);
+    let mut words = [0u64; table_rows::WORDS_ROOM];
+    let mut numbers = [0.0f64; table_rows::NUMBERS_ROOM];
+    let mut classes = [0u8; table_rows::LINES_ROOM];
+    let mut reasons = [0u8; table_rows::LINES_ROOM];
+    let s = read_survey::read_survey(text, &mut words, &mut numbers, &mut classes, &mut reasons);
     show_answer(s.number, 0);
     show_network(text, &words, &numbers);
-    showseries::show_sets(&words);
+    write_series::show_sets(&words);
     show_lines(&classes, &reasons, s.lines);
 }
 
@@ -82,19 +82,19 @@ fn show(strict: bool, text: &[u8]) {
 }
 
 fn run(strict: bool) {
-    let mut buffer = [0u8; input::TEXT_ROOM];
-    let read = input::read_argument(b"records", 2, &mut buffer);
+    let mut buffer = [0u8; program_input::TEXT_ROOM];
+    let read = program_input::read_argument(b"records", 2, &mut buffer);
     if let Input::Read(n) = read {
-        show(strict, letters::cut(&buffer, 0, n));
+        show(strict, leaf_letters::cut(&buffer, 0, n));
     }
 }
 
 fn main() {
-    if input::argument_is(1, b"strict") {
+    if program_input::argument_is(1, b"strict") {
         run(true);
         return;
     }
-    if input::argument_is(1, b"survey") {
+    if program_input::argument_is(1, b"survey") {
         run(false);
         return;
     }

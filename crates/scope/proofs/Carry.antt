@@ -6,12 +6,12 @@ use mathlib.Core.Bool.{Bool, true, false, cond}
 use mathlib.Core.List.{List, [], _∷_, map}
 use lib.ListN.{set}
 use lib.Ieee.{Float}
-use Rattle.decimals.specs.Numbers.{numberOf}
-use Rattle.decimals.specs.declared.Number as N
-use Rattle.decimals.specs.declared.Number.the-variants as number
-use Rattle.fields.specs.Fields.{Name, fieldsOf}
-use Rattle.letters.specs.Words.{same}
-use Rattle.fields.proofs.FieldLaws.{lettersIn, letters-moved}
+use Rattle.leaf_decimals.specs.Numbers.{numberOf}
+use Rattle.leaf_decimals.specs.declared.Number as N
+use Rattle.leaf_decimals.specs.declared.Number.the-variants as number
+use Rattle.leaf_fields.specs.Fields.{Name, fieldsOf}
+use Rattle.leaf_letters.specs.Words.{same}
+use Rattle.leaf_fields.proofs.FieldLaws.{lettersIn, letters-moved}
 use Rattle.scope.specs.declared.Reason.{Reason}
 use Rattle.scope.specs.declared.Found.{Found}
 use Rattle.scope.specs.declared.Found.the-variants.{At, Nowhere}

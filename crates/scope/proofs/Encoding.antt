@@ -7,8 +7,8 @@ use mathlib.Core.List.{List, [], _∷_, _++_}
 use mathlib.Core.Option.{Option, none, some}
 use lib.ListN.{length, take, drop, getD, replicate, length-append, length-replicate}
 use lib.Ieee.{Float}
-use Rattle.fields.specs.Fields.{Name}
-use Rattle.lines.specs.Text.{Each, nothing, each}
+use Rattle.leaf_fields.specs.Fields.{Name}
+use Rattle.scope_lines.specs.Text.{Each, nothing, each}
 use Rattle.scope.specs.declared.PipeStatus.{PipeStatus}
 use Rattle.scope.specs.declared.PipeStatus.the-variants as pipeIs
 use Rattle.scope.specs.declared.ValveType.{ValveType}

@@ -1,12 +1,12 @@
 -- Reading commutes with forgetting the places of names: what demand 3 for texts asks of a reader. Assumes nothing.
 use mathlib.Core.Path.{_≡_, refl, ap, ap₂, _∙_}
 use mathlib.Core.List.{List, [], _∷_, map}
-use Rattle.fields.specs.Fields.{Name}
-use Rattle.scans.specs.Lines.{cutOf}
-use Rattle.lines.specs.Reader as L
-use Rattle.lines.specs.Text.{Line, SameBody}
-use Rattle.lines.specs.Alike.{mapV, mapS, Erases, Alike}
-use Rattle.lines.proofs.Alike.{erases-alike}
+use Rattle.leaf_fields.specs.Fields.{Name}
+use Rattle.leaf_scans.specs.Lines.{cutOf}
+use Rattle.scope_lines.specs.Reader as L
+use Rattle.scope_lines.specs.Text.{Line, SameBody}
+use Rattle.scope_lines.specs.Alike.{mapV, mapS, Erases, Alike}
+use Rattle.scope_lines.proofs.Alike.{erases-alike}
 use Rattle.scope.specs.declared.Section.{Section}
 use Rattle.scope.specs.declared.Section.the-variants.{Junctions, Reservoirs, Tanks, Pipes, Pumps, Valves, Curves, Patterns, Demands, Emitters, Coordinates, Times, Rules, Passed}
 use Rattle.scope.specs.Records.{Network}

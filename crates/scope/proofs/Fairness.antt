@@ -4,13 +4,13 @@ use native.Mathlib.Omega.{arith}
 use mathlib.Core.Path.{_≡_, refl, ap, sym, _∙_}
 use mathlib.Core.Bool.{false, false≢true}
 use mathlib.Core.List.{List, [], _∷_, map}
-use Rattle.fields.specs.Fields.{Name}
-use Rattle.lines.specs.Reader as L
-use Rattle.lines.specs.Reader.{Mark, Class, blank, header, passed, taken, refused, ruleTaken, ruleRefused, ruleOpen, code, tally, count, struck, Piece, stopped}
-use Rattle.lines.specs.Text.{Line, Each, nothing, each, linesOf}
-use Rattle.lines.specs.Tables.{codeOf}
-use Rattle.lines.specs.Readings.{NoneStruck, Fair, StoppedAt, stopLine, stopGroup, stopEnd}
-use Rattle.lines.proofs.Readings.{stopped-at}
+use Rattle.leaf_fields.specs.Fields.{Name}
+use Rattle.scope_lines.specs.Reader as L
+use Rattle.scope_lines.specs.Reader.{Mark, Class, blank, header, passed, taken, refused, ruleTaken, ruleRefused, ruleOpen, code, tally, count, struck, Piece, stopped}
+use Rattle.scope_lines.specs.Text.{Line, Each, nothing, each, linesOf}
+use Rattle.scope_lines.specs.Tables.{codeOf}
+use Rattle.scope_lines.specs.Readings.{NoneStruck, Fair, StoppedAt, stopLine, stopGroup, stopEnd}
+use Rattle.scope_lines.proofs.Readings.{stopped-at}
 use Rattle.scope.specs.declared.Section.{Section}
 use Rattle.scope.specs.declared.Section.the-variants.{Junctions, Reservoirs, Tanks, Pipes, Pumps, Valves, Curves, Patterns, Demands, Emitters, Coordinates, Times, Rules, Passed}
 use Rattle.scope.specs.declared.Reason.{Reason}

@@ -6,11 +6,11 @@ use mathlib.Core.Option.{Option}
 use lib.ListN.{length, length-map}
 use lib.Dec.{ltb}
 use lib.Ieee.{Float}
-use Rattle.decimals.specs.Numbers.{numberOf}
-use Rattle.decimals.specs.declared.Number as N
-use Rattle.decimals.specs.declared.Number.the-variants as number
-use Rattle.fields.specs.Fields.{Name}
-use Rattle.letters.specs.Words.{same}
+use Rattle.leaf_decimals.specs.Numbers.{numberOf}
+use Rattle.leaf_decimals.specs.declared.Number as N
+use Rattle.leaf_decimals.specs.declared.Number.the-variants as number
+use Rattle.leaf_fields.specs.Fields.{Name}
+use Rattle.leaf_letters.specs.Words.{same}
 use Rattle.scope.specs.declared.ValveType.{ValveType}
 use Rattle.scope.specs.declared.ValveType.the-variants.{Gpv, Tcv, Fcv, Prv, Psv, Pbv, Pcv}
 use Rattle.scope.specs.Spelling.{wordSpeed, wordHead, wordPower}

@@ -7,8 +7,8 @@ use mathlib.Core.Option.{none, some}
 use lib.ListN.{length, getD, length-map, List·getD-map}
 use lib.Dec.{ltb}
 use lib.Ieee.{Float}
-use Rattle.fields.specs.Fields.{Name, rest}
-use Rattle.letters.specs.Words.{same}
+use Rattle.leaf_fields.specs.Fields.{Name, rest}
+use Rattle.leaf_letters.specs.Words.{same}
 use Rattle.scope.specs.declared.Reason.the-variants.{WrongKind}
 use Rattle.scope.specs.Spelling.{zeroText, signStar}
 use Rattle.scope.specs.Sections.{roomNodes, roomDemands}

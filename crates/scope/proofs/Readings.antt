@@ -5,10 +5,10 @@ use mathlib.Core.Bool.{Bool, true, false, cond}
 use mathlib.Core.List.{List, map}
 use lib.ListN.{length, take, drop}
 use lib.Dec.{ltb}
-use Rattle.fields.specs.Fields.{Name}
-use Rattle.lines.specs.Reader as L
-use Rattle.lines.specs.Text.{Line, Each, nothing, each}
-use Rattle.lines.proofs.Text.{lines-placed}
+use Rattle.leaf_fields.specs.Fields.{Name}
+use Rattle.scope_lines.specs.Reader as L
+use Rattle.scope_lines.specs.Text.{Line, Each, nothing, each}
+use Rattle.scope_lines.proofs.Text.{lines-placed}
 use Rattle.scope.specs.declared.Section.{Section}
 use Rattle.scope.specs.declared.Section.the-variants.{Junctions, Reservoirs, Tanks, Pipes, Pumps, Valves, Curves, Patterns, Demands, Emitters, Coordinates, Times, Rules, Passed}
 use Rattle.scope.specs.Sections.{roomText}

@@ -6,8 +6,8 @@ use mathlib.Core.List.{List, [], _∷_, _++_, map, map-append}
 use mathlib.Core.Option.{Option, none, some}
 use lib.ListN.{length, getD, length-map, List·getD-map}
 use lib.Dec.{ltb, leb}
-use Rattle.fields.specs.Fields.{Name}
-use Rattle.letters.specs.Words.{same}
+use Rattle.leaf_fields.specs.Fields.{Name}
+use Rattle.leaf_letters.specs.Words.{same}
 use Rattle.scope.specs.declared.Target.{Target}
 use Rattle.scope.specs.declared.Operator.{Operator}
 use Rattle.scope.specs.declared.Operator.the-variants.{And, Or}

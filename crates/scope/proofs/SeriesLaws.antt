@@ -7,8 +7,8 @@ use mathlib.Core.Option.{Option, none, some}
 use lib.ListN.{length, getD, length-map}
 use lib.Dec.{ltb, eqb}
 use lib.Ieee.{Float}
-use Rattle.decimals.specs.Numbers.{numberOf}
-use Rattle.fields.specs.Fields.{Name}
+use Rattle.leaf_decimals.specs.Numbers.{numberOf}
+use Rattle.leaf_fields.specs.Fields.{Name}
 use Rattle.scope.specs.declared.Reason.the-variants.{WrongKind}
 use Rattle.scope.specs.declared.Found.the-variants.{At}
 use Rattle.scope.specs.Sections.{roomCurves, roomPoints, roomPatterns, roomDemands}

@@ -7,10 +7,10 @@ use mathlib.Core.Bool.{Bool, true, false, cond, false≢true}
 use mathlib.Core.List.{List, [], _∷_, _++_}
 use lib.ListN.{length, take, length-append}
 use lib.Dec.{ltb}
-use Rattle.scans.specs.Lines.{chunks, joined}
-use Rattle.scans.proofs.LineLaws.{joined-chunks}
-use Rattle.lines.specs.Reader.{Mark, struck, strikeBy}
-use Rattle.lines.specs.Text.{strikeText, upTo}
+use Rattle.leaf_scans.specs.Lines.{chunks, joined}
+use Rattle.leaf_scans.proofs.LineLaws.{joined-chunks}
+use Rattle.scope_lines.specs.Reader.{Mark, struck, strikeBy}
+use Rattle.scope_lines.specs.Text.{strikeText, upTo}
 use Rattle.scope.specs.Sections.{roomText}
 use Rattle.scope.specs.Layout.{roomWords, roomNumbers}
 use Rattle.scope.specs.Reading.{allLow, strictOf, told, tooSmall, strictAnswer, networkIn, strictNetwork, surveyed, surveyNetwork}

@@ -6,16 +6,16 @@ use mathlib.Core.Bool.{false}
 use mathlib.Core.List.{List, _∷_, _++_, map}
 use mathlib.Core.Logic.{_↔_, _⊎_}
 use lib.ListN.{length, getD}
-use Rattle.lines.specs.Reader.{Reply, accepted, stopped, Piece, aLine, marked, refused, ruleRefused, unclosed, marks, count, surveyMarks}
-use Rattle.lines.specs.Reader as L
-use Rattle.lines.specs.Text.{Line, Each, linesOf, renumber, Moved, pieceNo}
-use Rattle.lines.specs.Tables.{codeOf, countIn}
-use Rattle.lines.specs.Alike.{Erases}
-use Rattle.lines.specs.Demand3.{markOf, Opens, upToStruck, PlainGroupStop}
-use Rattle.lines.specs.Readings.{ReasonStands, StoppedAt}
-use Rattle.lines.proofs.Demand3 as D
-use Rattle.lines.proofs.Readings as S
-use Rattle.lines.proofs.Marks.{count-codes}
+use Rattle.scope_lines.specs.Reader.{Reply, accepted, stopped, Piece, aLine, marked, refused, ruleRefused, unclosed, marks, count, surveyMarks}
+use Rattle.scope_lines.specs.Reader as L
+use Rattle.scope_lines.specs.Text.{Line, Each, linesOf, renumber, Moved, pieceNo}
+use Rattle.scope_lines.specs.Tables.{codeOf, countIn}
+use Rattle.scope_lines.specs.Alike.{Erases}
+use Rattle.scope_lines.specs.Demand3.{markOf, Opens, upToStruck, PlainGroupStop}
+use Rattle.scope_lines.specs.Readings.{ReasonStands, StoppedAt}
+use Rattle.scope_lines.proofs.Demand3 as D
+use Rattle.scope_lines.proofs.Readings as S
+use Rattle.scope_lines.proofs.Marks.{count-codes}
 use Rattle.scope.specs.declared.Survey.{Survey}
 use Rattle.scope.specs.declared.Answer.{Answer}
 use Rattle.scope.specs.declared.Section.the-variants.{Passed}

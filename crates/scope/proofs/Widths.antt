@@ -5,7 +5,7 @@ use mathlib.Core.Path.{_≡_, refl, ap}
 use mathlib.Core.List.{[], _∷_, _++_}
 use mathlib.Core.Option.{Option, none, some}
 use lib.ListN.{length, length-append}
-use Rattle.fields.specs.Fields.{Name}
+use Rattle.leaf_fields.specs.Fields.{Name}
 use Rattle.scope.specs.Records.{Node, NodeKind, junction, reservoir, tank, Place, Link, LinkKind, pipe, pump, valve, Demand, Rule, Clause, condition, action}
 use Rattle.scope.specs.Tables.{nameWords, countWords, flag, indexNo, kindWords, kindNumbers, placed, placeNumbers, nodeWords, nodeNumbers, linkKindWords, linkWords, linkNumbersOf, linkNumbers, demandWords, ruleWords, clauseWords, clauseNumbers}
 use Rattle.scope.specs.Layout.{nameWidth, timesWidth, nodesWidth, nodeNumbersWidth, linksWidth, linkNumbersWidth, demandsWidth, rulesWidth, clausesWidth, clauseNumbersWidth}

@@ -10,15 +10,15 @@ use lib.ListN.{length, take, drop, set, getD, length-set, length-take}
 use lib.Seq.{take-take}
 use lib.Dec.{ltb, leb}
 use lib.Ieee.{Float}
-use Rattle.decimals.specs.Numbers.{numberOf}
-use Rattle.decimals.specs.declared.Number as N
-use Rattle.decimals.specs.declared.Number.the-variants as number
-use Rattle.fields.specs.Fields.{Name, fieldsOf}
-use Rattle.scans.specs.Lines.{cutOf}
-use Rattle.letters.specs.Words.{same}
-use Rattle.fields.proofs.FieldLaws.{StandsFrom, Ordered, ordered, drop-take, part-take}
-use Rattle.scans.proofs.LineLaws.{cut-prefix}
-use Rattle.lines.specs.Text.{Line, Each, nothing, each}
+use Rattle.leaf_decimals.specs.Numbers.{numberOf}
+use Rattle.leaf_decimals.specs.declared.Number as N
+use Rattle.leaf_decimals.specs.declared.Number.the-variants as number
+use Rattle.leaf_fields.specs.Fields.{Name, fieldsOf}
+use Rattle.leaf_scans.specs.Lines.{cutOf}
+use Rattle.leaf_letters.specs.Words.{same}
+use Rattle.leaf_fields.proofs.FieldLaws.{StandsFrom, Ordered, ordered, drop-take, part-take}
+use Rattle.leaf_scans.proofs.LineLaws.{cut-prefix}
+use Rattle.scope_lines.specs.Text.{Line, Each, nothing, each}
 use Rattle.scope.specs.declared.Reason.{Reason}
 use Rattle.scope.specs.declared.Found.{Found}
 use Rattle.scope.specs.declared.Found.the-variants.{At, Nowhere}

@@ -3,9 +3,9 @@
 use Prim.Native.Nat.{ℕ}
 use mathlib.Core.List.{List, map}
 use mathlib.Core.Option.{Option, none, some}
-use Rattle.fields.specs.Fields.{Name, fieldsOf}
-use Rattle.scans.specs.Lines.{cutOf}
-use Rattle.lines.specs.Reader as L
+use Rattle.leaf_fields.specs.Fields.{Name, fieldsOf}
+use Rattle.leaf_scans.specs.Lines.{cutOf}
+use Rattle.scope_lines.specs.Reader as L
 use Rattle.scope.specs.declared.Section.{Section}
 use Rattle.scope.specs.Sections.{isRules}
 use Rattle.scope.specs.Records.{Network, Node, NodeKind, junction, reservoir, tank, Link, LinkKind, pipe, pump, valve, Demand, Rule, Clause, condition, action, Condition, Action}

@@ -3,13 +3,13 @@
 use Prim.Native.Nat.{ℕ}
 use mathlib.Core.Bool.{Bool, cond}
 use mathlib.Core.List.{List, map}
-use Rattle.fields.specs.Fields.{Name, fieldsOf}
-use Rattle.scans.specs.Lines.{trimmed, lineKind, cutOf}
-use Rattle.letters.specs.Words.{begins}
-use Rattle.scans.specs.declared.LineKind.{LineKind}
-use Rattle.scans.specs.declared.LineKind.the-variants.{Blank, Header, Other}
-use Rattle.lines.specs.Reader as L
-use Rattle.lines.specs.Text.{Line}
+use Rattle.leaf_fields.specs.Fields.{Name, fieldsOf}
+use Rattle.leaf_scans.specs.Lines.{trimmed, lineKind, cutOf}
+use Rattle.leaf_letters.specs.Words.{begins}
+use Rattle.leaf_scans.specs.declared.LineKind.{LineKind}
+use Rattle.leaf_scans.specs.declared.LineKind.the-variants.{Blank, Header, Other}
+use Rattle.scope_lines.specs.Reader as L
+use Rattle.scope_lines.specs.Text.{Line}
 use Rattle.scope.specs.declared.Section.{Section}
 use Rattle.scope.specs.declared.Section.the-variants.{Junctions, Reservoirs, Tanks, Pipes, Pumps, Valves, Curves, Patterns, Demands, Emitters, Coordinates, Times, Rules, Passed}
 use Rattle.scope.specs.Spelling.{wordRule}

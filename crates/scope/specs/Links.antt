@@ -7,11 +7,11 @@ use lib.ListN.{length}
 use lib.IntN.{pos}
 use lib.Dec.{ltb}
 use lib.Ieee.{Float, fin}
-use Rattle.decimals.specs.Numbers.{numberOf}
-use Rattle.decimals.specs.declared.Number as N
-use Rattle.decimals.specs.declared.Number.the-variants as number
-use Rattle.fields.specs.Fields.{Name}
-use Rattle.letters.specs.Words.{same, spelled}
+use Rattle.leaf_decimals.specs.Numbers.{numberOf}
+use Rattle.leaf_decimals.specs.declared.Number as N
+use Rattle.leaf_decimals.specs.declared.Number.the-variants as number
+use Rattle.leaf_fields.specs.Fields.{Name}
+use Rattle.leaf_letters.specs.Words.{same, spelled}
 use Rattle.scope.specs.declared.Reason.the-variants.{Missing, Used, NotFound, UnknownWord, NoRoom}
 use Rattle.scope.specs.declared.PipeStatus.{PipeStatus}
 use Rattle.scope.specs.declared.PipeStatus.the-variants.{Open, Closed, CheckValve}

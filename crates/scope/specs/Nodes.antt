@@ -6,8 +6,8 @@ use mathlib.Core.Option.{Option, none, some}
 use lib.ListN.{length, set, getD}
 use lib.Dec.{ltb}
 use lib.Ieee.{Float}
-use Rattle.fields.specs.Fields.{Name, rest}
-use Rattle.letters.specs.Words.{same, spelled}
+use Rattle.leaf_fields.specs.Fields.{Name, rest}
+use Rattle.leaf_letters.specs.Words.{same, spelled}
 use Rattle.scope.specs.declared.Reason.the-variants.{Used, NotFound, WrongKind, NoRoom}
 use Rattle.scope.specs.Spelling.{zeroText, signStar, wordYes}
 use Rattle.scope.specs.Sections.{roomNodes, roomDemands}

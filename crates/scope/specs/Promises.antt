@@ -4,9 +4,9 @@ use mathlib.Core.Path.{_≡_}
 use mathlib.Core.Bool.{true, false}
 use mathlib.Core.List.{List}
 use lib.ListN.{length, getD}
-use Rattle.lines.specs.Reader.{Mark, marked, blank}
-use Rattle.lines.specs.Text.{Line, strikeText}
-use Rattle.lines.specs.Demand3.{upToStruck}
+use Rattle.scope_lines.specs.Reader.{Mark, marked, blank}
+use Rattle.scope_lines.specs.Text.{Line, strikeText}
+use Rattle.scope_lines.specs.Demand3.{upToStruck}
 use Rattle.scope.specs.declared.Section.the-variants.{Passed}
 use Rattle.scope.specs.Sections.{roomText}
 use Rattle.scope.specs.Records.{noNetwork}

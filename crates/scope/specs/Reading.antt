@@ -5,9 +5,9 @@ use mathlib.Core.List.{List, [], _∷_, _++_, map}
 use lib.ListN.{length, drop, replicate}
 use lib.Dec.{ltb}
 use lib.Ieee.{Float}
-use Rattle.lines.specs.Reader.{Reply, accepted, stopped, Standing, standing, Mark, strict, surveyMarks, surveyRecs, count}
-use Rattle.lines.specs.Text.{Line, linesOf, pieceNo}
-use Rattle.lines.specs.Tables.{codeOf, reasonIn, marksIn}
+use Rattle.scope_lines.specs.Reader.{Reply, accepted, stopped, Standing, standing, Mark, strict, surveyMarks, surveyRecs, count}
+use Rattle.scope_lines.specs.Text.{Line, linesOf, pieceNo}
+use Rattle.scope_lines.specs.Tables.{codeOf, reasonIn, marksIn}
 use Rattle.scope.specs.declared.Answer.{Answer}
 use Rattle.scope.specs.declared.Survey.{Survey}
 use Rattle.scope.specs.declared.Section.{Section}

@@ -7,8 +7,8 @@ use mathlib.Core.Option.{Option, none, some}
 use lib.ListN.{length, replicate}
 use lib.IntN.{pos}
 use lib.Ieee.{Float, fin}
-use Rattle.fields.specs.Fields.{Name}
-use Rattle.letters.specs.Words.{same}
+use Rattle.leaf_fields.specs.Fields.{Name}
+use Rattle.leaf_letters.specs.Words.{same}
 use Rattle.scope.specs.declared.Found.{Found}
 use Rattle.scope.specs.declared.Found.the-variants.{At, Nowhere}
 use Rattle.scope.specs.declared.Kind.{Kind}

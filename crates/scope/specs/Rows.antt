@@ -10,17 +10,17 @@ use lib.ListN.{length, replicate}
 use lib.Dec.{eqb}
 use lib.IntN.{pos}
 use lib.Ieee.{Float, lt, mul, div, ofInt, ofBits, neg, binary64}
-use Rattle.decimals.specs.Numbers.{numberOf}
-use Rattle.counts.specs.Counts.{countOf}
-use Rattle.decimals.specs.Reach.{meaning}
-use Rattle.clock.specs.Times.{timeOf, colonForm, hourOf, inUnit, colonAt, withoutS, unitOf}
-use Rattle.clock.specs.Times as clock
-use Rattle.fields.specs.Fields.{fieldsOf}
-use Rattle.scans.specs.Lines.{trimmed, lineKind, cutOf, startTrimmed, endTrimmed}
-use Rattle.letters.specs.Words.{same}
-use Rattle.lines.specs.Reader.{Mark, surveyMarks, surveyRecs, strict, code, count}
-use Rattle.lines.specs.Text.{linesOf, pieceNo}
-use Rattle.lines.specs.Tables.{codeOf, reasonIn}
+use Rattle.leaf_decimals.specs.Numbers.{numberOf}
+use Rattle.leaf_counts.specs.Counts.{countOf}
+use Rattle.leaf_decimals.specs.Reach.{meaning}
+use Rattle.leaf_clock.specs.Times.{timeOf, colonForm, hourOf, inUnit, colonAt, withoutS, unitOf}
+use Rattle.leaf_clock.specs.Times as clock
+use Rattle.leaf_fields.specs.Fields.{fieldsOf}
+use Rattle.leaf_scans.specs.Lines.{trimmed, lineKind, cutOf, startTrimmed, endTrimmed}
+use Rattle.leaf_letters.specs.Words.{same}
+use Rattle.scope_lines.specs.Reader.{Mark, surveyMarks, surveyRecs, strict, code, count}
+use Rattle.scope_lines.specs.Text.{linesOf, pieceNo}
+use Rattle.scope_lines.specs.Tables.{codeOf, reasonIn}
 use Rattle.scope.specs.declared.Answer.{Answer}
 use Rattle.scope.specs.declared.Survey.{Survey}
 use Rattle.scope.specs.Tables.{pipeStatusNo}

@@ -7,9 +7,9 @@ use lib.ListN.{length, getD}
 use lib.Dec.{ltb, leb}
 use lib.IntN.{pos}
 use lib.Ieee.{Float, binary64, ofInt}
-use Rattle.decimals.specs.Numbers.{numberOf}
-use Rattle.fields.specs.Fields.{Name}
-use Rattle.letters.specs.Words.{same}
+use Rattle.leaf_decimals.specs.Numbers.{numberOf}
+use Rattle.leaf_fields.specs.Fields.{Name}
+use Rattle.leaf_letters.specs.Words.{same}
 use Rattle.scope.specs.declared.Reason.the-variants.{Missing, Used, NotFound, WrongKind, UnknownWord, NoCondition, NoAction, NoId, BeyondReach, NoRoom}
 use Rattle.scope.specs.declared.SystemAttribute.the-variants as system
 use Rattle.scope.specs.declared.NodeAttribute.the-variants as node

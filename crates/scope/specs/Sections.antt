@@ -2,7 +2,7 @@
 use Prim.Native.Nat.{ℕ}
 use mathlib.Core.Bool.{Bool, true, false, cond}
 use mathlib.Core.List.{List}
-use Rattle.letters.specs.Words.{same}
+use Rattle.leaf_letters.specs.Words.{same}
 use Rattle.scope.specs.declared.Section.{Section}
 use Rattle.scope.specs.declared.Section.the-variants.{Junctions, Reservoirs, Tanks, Pipes, Pumps, Valves, Curves, Patterns, Demands, Emitters, Coordinates, Times, Rules, Passed}
 use Rattle.scope.specs.Spelling.{headerJunctions, headerReservoirs, headerTanks, headerPipes, headerPumps, headerValves, headerCurves, headerPatterns, headerDemands, headerEmitters, headerCoordinates, headerTimes, headerRules}

@@ -6,8 +6,8 @@ use mathlib.Core.Option.{Option, none, some}
 use lib.ListN.{length, set, getD}
 use lib.Dec.{ltb, leb, eqb}
 use lib.Ieee.{Float, lt}
-use Rattle.decimals.specs.Numbers.{numberOf}
-use Rattle.fields.specs.Fields.{Name}
+use Rattle.leaf_decimals.specs.Numbers.{numberOf}
+use Rattle.leaf_fields.specs.Fields.{Name}
 use Rattle.scope.specs.declared.Reason.the-variants.{NotFound, WrongKind, XFalls, NoRoom}
 use Rattle.scope.specs.declared.Found.{Found}
 use Rattle.scope.specs.declared.Found.the-variants.{At, Nowhere}

@@ -4,10 +4,10 @@ use mathlib.Core.Bool.{Bool, cond, not, _&&_, _||_}
 use mathlib.Core.List.{List, [], _∷_}
 use mathlib.Core.Option.{Option, some}
 use lib.ListN.{set}
-use Rattle.decimals.specs.Numbers.{numberOf}
-use Rattle.clock.specs.Times.{hasColon}
-use Rattle.fields.specs.Fields.{Name}
-use Rattle.letters.specs.Words.{spelled}
+use Rattle.leaf_decimals.specs.Numbers.{numberOf}
+use Rattle.leaf_clock.specs.Times.{hasColon}
+use Rattle.leaf_fields.specs.Fields.{Name}
+use Rattle.leaf_letters.specs.Words.{spelled}
 use Rattle.scope.specs.declared.Reason.the-variants.{Missing}
 use Rattle.scope.specs.declared.TimeOption.{TimeOption}
 use Rattle.scope.specs.declared.TimeOption.the-variants.{Duration, HydraulicTimestep, PatternTimestep, ReportTimestep, PatternStart, StartClocktime, Dropped}

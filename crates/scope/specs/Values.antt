@@ -4,17 +4,17 @@ use mathlib.Core.Bool.{Bool, true, false, cond}
 use mathlib.Core.List.{List, [], _∷_}
 use mathlib.Core.Option.{Option, none, some}
 use lib.Ieee.{Float}
-use Rattle.decimals.specs.Numbers.{numberOf}
-use Rattle.counts.specs.Counts.{countOf}
-use Rattle.decimals.specs.declared.Number as N
-use Rattle.decimals.specs.declared.Number.the-variants as number
-use Rattle.counts.specs.declared.Count as C
-use Rattle.counts.specs.declared.Count.the-variants as count
-use Rattle.clock.specs.Times.{timeOf}
-use Rattle.clock.specs.declared.Time as T
-use Rattle.clock.specs.declared.Time.the-variants as time
-use Rattle.fields.specs.Fields.{Name, lettersOr, rest}
-use Rattle.letters.specs.Words.{same}
+use Rattle.leaf_decimals.specs.Numbers.{numberOf}
+use Rattle.leaf_counts.specs.Counts.{countOf}
+use Rattle.leaf_decimals.specs.declared.Number as N
+use Rattle.leaf_decimals.specs.declared.Number.the-variants as number
+use Rattle.leaf_counts.specs.declared.Count as C
+use Rattle.leaf_counts.specs.declared.Count.the-variants as count
+use Rattle.leaf_clock.specs.Times.{timeOf}
+use Rattle.leaf_clock.specs.declared.Time as T
+use Rattle.leaf_clock.specs.declared.Time.the-variants as time
+use Rattle.leaf_fields.specs.Fields.{Name, lettersOr, rest}
+use Rattle.leaf_letters.specs.Words.{same}
 use Rattle.scope.specs.declared.Reason.{Reason}
 use Rattle.scope.specs.declared.Reason.the-variants.{Missing, Malformed, UnknownWord, BeyondReach}
 use Rattle.scope.specs.declared.Found.{Found}

@@ -4,8 +4,8 @@ use mathlib.Core.Path.{_≡_}
 use mathlib.Core.List.{List}
 use mathlib.Core.Option.{Option, none, some}
 use lib.ListN.{length, take, drop}
-use Rattle.fields.specs.Fields.{Name}
-use Rattle.lines.specs.Text.{Each}
+use Rattle.leaf_fields.specs.Fields.{Name}
+use Rattle.scope_lines.specs.Text.{Each}
 use Rattle.scope.specs.Records.{Network, Node, NodeKind, junction, reservoir, tank, Link, LinkKind, pipe, pump, valve, Demand, Rule, Clause, condition, action}
 
 -- the letters of a name, one at least, stand in the text at its place

@@ -1,12 +1,12 @@
 // Surveys a text and prints how much of it was read: the records, the conditions and actions, the lines by class, and every refusal.
-use input::Input;
-use printing::count;
-use printing::newline;
-use printing::write;
+use program_input::Input;
 use scope::Survey;
+use write_text::count;
+use write_text::newline;
+use write_text::write;
 
 fn show_records(words: &[u64], numbers: &[f64]) {
-    let counts = storedcounts::counts_at(words);
+    let counts = stored_counts::counts_at(words);
     let all = counts.clauses;
     write(b"records");
     count(counts.nodes as u64);
@@ -15,8 +15,8 @@ fn show_records(words: &[u64], numbers: &[f64]) {
     count(counts.patterns as u64);
     count(counts.rules as u64);
     write(b"\nclauses");
-    count(parts::conditions_between(words, numbers, 0, all) as u64);
-    count(parts::actions_between(words, numbers, 0, all) as u64);
+    count(stored_parts::conditions_between(words, numbers, 0, all) as u64);
+    count(stored_parts::actions_between(words, numbers, 0, all) as u64);
     newline();
 }
 
@@ -53,13 +53,13 @@ fn show_refusals(reasons: &[u8]) {
 
 // What the survey says of the text: in counts, or in words.
 fn show(text: &[u8], in_words: bool) {
-    let mut words = [0u64; tables::WORDS_ROOM];
-    let mut numbers = [0.0f64; tables::NUMBERS_ROOM];
-    let mut classes = [0u8; tables::LINES_ROOM];
-    let mut reasons = [0u8; tables::LINES_ROOM];
-    let s = surveying::read_survey(text, &mut words, &mut numbers, &mut classes, &mut reasons);
+    let mut words = [0u64; table_rows::WORDS_ROOM];
+    let mut numbers = [0.0f64; table_rows::NUMBERS_ROOM];
+    let mut classes = [0u8; table_rows::LINES_ROOM];
+    let mut reasons = [0u8; table_rows::LINES_ROOM];
+    let s = read_survey::read_survey(text, &mut words, &mut numbers, &mut classes, &mut reasons);
     if in_words {
-        explain::show_survey(text, s, &classes, &reasons);
+        write_reasons::show_survey(text, s, &classes, &reasons);
         return;
     }
     if s.number != 0 {
@@ -81,19 +81,19 @@ fn show_help() {
 
 // Argument `file` names the file.
 fn run(file: usize, in_words: bool) {
-    let mut buffer = [0u8; input::TEXT_ROOM];
-    let read = input::read_argument(b"tally", file, &mut buffer);
+    let mut buffer = [0u8; program_input::TEXT_ROOM];
+    let read = program_input::read_argument(b"tally", file, &mut buffer);
     if let Input::Read(n) = read {
-        show(letters::cut(&buffer, 0, n), in_words);
+        show(leaf_letters::cut(&buffer, 0, n), in_words);
     }
 }
 
 fn main() {
-    if input::argument_is(1, b"--help") {
+    if program_input::argument_is(1, b"--help") {
         show_help();
         return;
     }
-    if input::argument_is(1, b"--explain") {
+    if program_input::argument_is(1, b"--explain") {
         run(2, true);
         return;
     }

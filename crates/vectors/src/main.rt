@@ -6,9 +6,9 @@
 //
 // Bits and values are 16 hexadecimal digits; 2, 7 and 22 are the numbers of document 01. One space stands between two fields,
 // and a text may be empty. A line that begins with # says where the lines after it come from.
-use clock::Time;
-use counts::Count;
-use decimals::Number;
+use leaf_clock::Time;
+use leaf_counts::Count;
+use leaf_decimals::Number;
 
 fn same(a: &[u8], b: &[u8]) -> bool {
     if a.len() != b.len() {
@@ -38,7 +38,7 @@ fn double_agrees(x: f64, answer: &[u8]) -> bool {
 }
 
 fn number_agrees(text: &[u8], answer: &[u8]) -> bool {
-    match decimals::read_number(text) {
+    match leaf_decimals::read_number(text) {
         Number::Value(x) => double_agrees(x, answer),
         Number::Malformed => same(answer, b"2"),
         Number::Beyond => same(answer, b"22"),
@@ -46,7 +46,7 @@ fn number_agrees(text: &[u8], answer: &[u8]) -> bool {
 }
 
 fn count_agrees(text: &[u8], answer: &[u8]) -> bool {
-    match counts::read_count(text) {
+    match leaf_counts::read_count(text) {
         Count::Whole(n) => is_hex(n, answer),
         Count::Uncounted => same(answer, b"2"),
     }
@@ -61,7 +61,7 @@ fn unit_in(field: &[u8]) -> &[u8] {
 }
 
 fn time_agrees(text: &[u8], unit: &[u8], answer: &[u8]) -> bool {
-    match clock::read_time(text, unit) {
+    match leaf_clock::read_time(text, unit) {
         Time::Seconds(n) => is_hex(n, answer),
         Time::Malformed => same(answer, b"2"),
         Time::UnknownUnit => same(answer, b"7"),

@@ -1,6 +1,6 @@
 -- `leaves::leaf_count` meets its contract. Assumes nothing.
 use mathlib.Core.Path.{sym, _∙_}
-use Rattle.counts.specs.Counts.{countAnswer}
+use Rattle.leaf_counts.specs.Counts.{countAnswer}
 use Rattle.leaves.specs.Values.{wholeIn}
 use Rattle.leaves.proofs.Answers.{both}
 use borrow.Author.Needs.{needs}

@@ -1,7 +1,7 @@
 -- `leaves::leaf_number` meets its contract. Assumes nothing.
 use mathlib.Core.Path.{sym, _∙_}
 use lib.Ieee.{ofBits}
-use Rattle.decimals.specs.Numbers.{numberAnswer}
+use Rattle.leaf_decimals.specs.Numbers.{numberAnswer}
 use Rattle.leaves.specs.Values.{valueIn}
 use Rattle.leaves.proofs.Answers.{both}
 use borrow.Author.Needs.{needs}

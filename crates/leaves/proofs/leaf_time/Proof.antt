@@ -1,6 +1,6 @@
 -- `leaves::leaf_time` meets its contract. Assumes nothing.
 use mathlib.Core.Path.{sym, _∙_}
-use Rattle.clock.specs.Times.{timeAnswer, secondsIn}
+use Rattle.leaf_clock.specs.Times.{timeAnswer, secondsIn}
 use Rattle.leaves.proofs.Answers.{both}
 use borrow.Author.Needs.{needs}
 use Rattle.leaves.proofs.leaf_time.Statement.{statement}

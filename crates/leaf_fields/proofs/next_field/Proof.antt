@@ -1,0 +1,28 @@
+-- `leaf_fields::next_field` meets its contract. Assumes nothing.
+use borrow.Author.Needs.{needs}
+use denote.Ref.{now}
+use Rattle.leaf_fields.proofs.FieldLaws.{next-from, next-nothing}
+use Rattle.leaf_fields.proofs.next_field.Statement.{statement}
+use Rattle.leaf_fields.proofs.next_field.Tie as tie
+
+field-start-requires : tie.Need-field-start-requires
+field-start-requires c κs = search needs
+
+add-reach : tie.Need-add-reach
+add-reach c = search needs
+
+reach-requires : tie.Need-reach-requires
+reach-requires c κs = search needs
+
+returns : tie.Need-returns
+returns c =
+    let a = c .before .before .before .before .args in
+    next-from (now (a .l)) (a .at) (c .before .before .field-start .result) (c .reach .result) (c .before .before .field-start .ensures) (c .before .if1 .taken) (c .reach .ensures)
+
+returns-2 : tie.Need-returns-2
+returns-2 c =
+    let a = c .before .before .before .args in
+    next-nothing (now (a .l)) (a .at) (c .before .field-start .result) 0 (c .before .field-start .ensures) (c .if1 .left)
+
+pub next-field-spec : {M : Type 1} → statement M
+next-field-spec = tie.close (tie.spec field-start-requires add-reach reach-requires returns returns-2)

@@ -1,0 +1,53 @@
+-- `read_end::resolve_nodes` meets its contract. Assumes nothing.
+use Prim.Native.Nat.{_-_}
+use native.Mathlib.Omega.{arith}
+use denote.Ref.{now}
+use mathlib.Core.Path.{sym, _∙_}
+use Rattle.table_rows.proofs.HoldLaws.{bound-nodes}
+use Rattle.table_rows.proofs.AfterLaws.{holds-words, sound-words}
+use Rattle.read_end.proofs.ResolveLaws.{Nodes, start-nodes, next-nodes, all-nodes}
+use Rattle.read_end.proofs.resolve_nodes.Statement.{statement}
+use Rattle.read_end.proofs.resolve_nodes.Tie as tie
+
+abbrev Inv-loop : tie.InvT-loop
+Inv-loop text s words₀ n k₀ words k =
+    Nodes text s words₀ words k
+
+abbrev μ-loop : tie.MeasureT-loop
+μ-loop text s words₀ n k₀ words k =
+    n - k
+
+loop-holds : tie.Need-loop-holds Inv-loop μ-loop
+loop-holds c = start-nodes (now (c .before .before .args .text)) (c .before .before .args .s) (now (c .before .before .args .words))
+
+resolve-node-requires : tie.Need-resolve-node-requires Inv-loop μ-loop
+resolve-node-requires c κs = (c .before .before .before .before .before .pre .0, record { m = _; holds = c .before .before .loop .inv .held (c .before .before .before .before .before .pre .1 .m) (c .before .before .before .before .before .pre .0) (c .before .before .before .before .before .pre .1 .holds) }, c .before .loop-test .taken)
+
+add-k : tie.Need-add-k Inv-loop μ-loop
+add-k c = omega (arith, c .before .before .before .before .loop-test .taken, bound-nodes (c .before .before .before .before .before .before .before .before .pre .1 .holds))
+
+loop-less : tie.Need-loop-less Inv-loop μ-loop
+loop-less c = omega (arith, c .before .before .before .before .loop-test .taken)
+
+loop-again : tie.Need-loop-again Inv-loop μ-loop
+loop-again c = next-nodes (now (c .before .before .before .before .before .before .before .before .args .text)) (c .before .before .before .before .before .before .before .before .args .s) (now (c .before .before .before .before .before .before .before .before .args .words)) (c .before .before .before .before .before .loop .inv) (c .before .before .before .before .loop-test .taken) _ (λ m f h. c .before .before .resolve-node .ensures m f h)
+
+same-length : tie.Need-same-length Inv-loop μ-loop
+same-length c = holds-words (c .before .loop .inv .held (c .before .before .before .before .pre .1 .m) (c .before .before .before .before .pre .0) (c .before .before .before .before .pre .1 .holds)) ∙ sym (sound-words (c .before .before .before .before .pre .1))
+
+returns : tie.Need-returns Inv-loop μ-loop
+returns c = λ m f h. all-nodes (now (c .before .before .before .before .args .text)) (c .before .before .before .before .args .s) (now (c .before .before .before .before .args .words)) (c .before .loop .inv) (c .loop-test .left) m f h
+
+pub resolve-nodes-spec : {M : Type 1} → statement M
+resolve-nodes-spec =
+    tie.close
+    (tie.spec
+    Inv-loop
+    μ-loop
+    loop-holds
+    resolve-node-requires
+    add-k
+    loop-less
+    loop-again
+    same-length
+    returns)

@@ -1,0 +1,57 @@
+-- `read_headers::is_plain` meets its contract. Assumes nothing.
+use denote.Ref.{now}
+use Rattle.read_headers.proofs.OwnLaws.{plain-nothing, plain-blank, plain-header, plain-rule, plain-other}
+use borrow.Author.Needs.{needs}
+use Rattle.read_headers.proofs.is_plain.Statement.{statement}
+use Rattle.read_headers.proofs.is_plain.Tie as tie
+use Rattle.read_headers.proofs.is_plain.Reads as reads
+use Rattle.read_headers.proofs.is_plain.Lts as lts
+use Rattle.leaf_fields.proofs.field_start.Reads as field-start-reads
+
+field-start-requires : tie.Need-field-start-requires
+field-start-requires c κs = search needs
+
+returns : tie.Need-returns
+returns c =
+    let a = c .before .before .before .args in
+    plain-nothing (now (a .l)) (a .at) _ (c .before .field-start .ensures) (c .if1 .taken)
+
+shared-slice-read-match : tie.Need-shared-slice-read-match
+shared-slice-read-match c = search needs
+
+returns-2 : tie.Need-returns-2
+returns-2 c =
+    let p = c .before .before in
+    let a = p .before .before .before .args in
+    plain-blank (now (a .l)) (a .at) _ (p .before .field-start .ensures) (p .if1 .left) (c .match .keys1)
+
+returns-3 : tie.Need-returns-3
+returns-3 c =
+    let p = c .before .before in
+    let a = p .before .before .before .args in
+    plain-header (now (a .l)) (a .at) _ (p .before .field-start .ensures) (p .if1 .left) (c .match .keys2)
+
+returns-4 : tie.Need-returns-4
+returns-4 c =
+    let p = c .before .before in
+    let a = p .before .before .before .args in
+    plain-rule (now (a .l)) (a .at) _ (p .before .field-start .ensures) (p .if1 .left) (c .match .keys3)
+
+returns-5 : tie.Need-returns-5
+returns-5 c =
+    let p = c .before .before in
+    let a = p .before .before .before .args in
+    let r = c .match .rest in
+    plain-other (now (a .l)) (a .at) _ (p .before .field-start .ensures) (p .if1 .left) (r .0 .0 .1) (r .0 .1) (r .1)
+
+pub is-plain-spec : {M : Type 1} → statement M
+is-plain-spec =
+    tie.close
+    (tie.spec
+    field-start-requires
+    returns
+    shared-slice-read-match
+    returns-2
+    returns-3
+    returns-4
+    returns-5)

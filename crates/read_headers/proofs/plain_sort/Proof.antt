@@ -1,0 +1,24 @@
+-- `read_headers::plain_sort` meets its contract. Assumes nothing.
+use mathlib.Core.Path.{_≡_, refl, sym, ap, _∙_, subst}
+use Rattle.scope.specs.Lines.{sortBy, sortOf}
+use borrow.Author.Needs.{needs}
+use Rattle.read_headers.proofs.plain_sort.Statement.{statement}
+use Rattle.read_headers.proofs.plain_sort.Tie as tie
+
+slice-aggregate-starts-with : tie.Need-slice-aggregate-starts-with
+slice-aggregate-starts-with c = search needs
+
+starts-with-requires : tie.Need-starts-with-requires
+starts-with-requires c κs = search needs
+
+returns : tie.Need-returns
+unfolding sortBy
+returns c = rw (sym (c .before .starts-with .ensures) ∙ c .if1 .taken)
+
+returns-2 : tie.Need-returns-2
+unfolding sortBy
+returns-2 c = rw (sym (c .before .starts-with .ensures) ∙ c .if1 .left)
+
+pub plain-sort-spec : {M : Type 1} → statement M
+plain-sort-spec =
+    tie.close (tie.spec slice-aggregate-starts-with starts-with-requires returns returns-2)

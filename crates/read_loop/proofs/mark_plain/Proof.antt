@@ -1,0 +1,22 @@
+-- `read_loop::mark_plain` meets its contract. Assumes nothing.
+use borrow.Author.Needs.{needs}
+use Rattle.read_loop.proofs.mark_plain.Statement.{statement}
+use Rattle.read_loop.proofs.mark_plain.Tie as tie
+use Rattle.read_loop.proofs.mark_plain.Reads as reads
+use Rattle.read_loop.proofs.mark_plain.Lts as lts
+use Rattle.read_marks.proofs.mark_lines.Reads as mark-lines-reads
+
+mark-lines-requires : tie.Need-mark-lines-requires
+mark-lines-requires c κs = c .before .before .before .pre (c .before .if1 .taken)
+
+same-length : tie.Need-same-length
+same-length c = search needs
+
+returns : tie.Need-returns
+returns c = rw (c .before .before .before .before .if1 .taken) (c .before .before .mark-lines .ensures)
+
+returns-2 : tie.Need-returns-2
+returns-2 c = search needs
+
+pub mark-plain-spec : {M : Type 1} → statement M
+mark-plain-spec = tie.close (tie.spec mark-lines-requires same-length returns returns-2)

@@ -1,0 +1,29 @@
+use native.Mathlib.Omega.{arith}
+use mathlib.Core.Path.{refl}
+use borrow.Author.Needs.{needs}
+use Rattle.read_strict.proofs.write_counts.Statement.{statement}
+use Rattle.read_strict.proofs.write_counts.Tie as tie
+use Rattle.read_strict.proofs.write_counts.Reads as reads
+use Rattle.read_strict.proofs.write_counts.Lts as lts
+use Rattle.table_rows.proofs.paste_words.Reads as paste-words-reads
+
+slice-aggregate-paste-words : tie.Need-slice-aggregate-paste-words
+slice-aggregate-paste-words c = refl
+
+paste-words-requires : tie.Need-paste-words-requires
+paste-words-requires c κs = omega (arith, c .before .before .before .pre)
+
+same-length : tie.Need-same-length
+same-length c = c .before .before .paste-words .kept .0
+
+returns : tie.Need-returns
+returns c = c .before .before .paste-words .ensures
+
+pub write-counts-spec : {M : Type 1} → statement M
+write-counts-spec =
+    tie.close
+    (tie.spec
+    slice-aggregate-paste-words
+    paste-words-requires
+    same-length
+    returns)

@@ -1,0 +1,64 @@
+-- `rule_groups::see` meets its contract. Assumes nothing.
+use mathlib.Core.Path.{_≡_, refl, sym, ap, _∙_, subst}
+use mathlib.Core.List.{List, [], _∷_}
+use Rattle.leaf_fields.specs.Fields.{Fits, fieldsAt, nameIn, part}
+use Rattle.rule_lines.specs.Lines.{actionIn, saidId, saidRank, saidCondition, saidAction, withSaid, LineFits}
+use Rattle.rule_lines.specs.declared.LineRead.{LineRead}
+use Rattle.rule_clauses.specs.Clauses.{conditionIn}
+use Rattle.rule_groups.proofs.SeeLaws.{see-id, see-rank, see-condition, see-action}
+use borrow.Author.Needs.{needs}
+use Rattle.rule_groups.proofs.see.Statement.{statement}
+use Rattle.rule_groups.proofs.see.Tie as tie
+
+enum-known-read : tie.Need-enum-known-read
+enum-known-read c = search needs
+
+enum-known-read-2 : tie.Need-enum-known-read-2
+enum-known-read-2 c = search needs
+
+enum-told : tie.Need-enum-told
+enum-told c = search needs
+
+add-t12 : tie.Need-add-t12
+add-t12 c = search needs
+
+enum-known-read-3 : tie.Need-enum-known-read-3
+enum-known-read-3 c = search needs
+
+add-t14 : tie.Need-add-t14
+add-t14 c = search needs
+
+enum-known-read-4 : tie.Need-enum-known-read-4
+enum-known-read-4 c = search needs
+
+returns : tie.Need-returns
+returns c = λ text d sk fit. (withSaid (saidId (nameIn text (c .before .read .given .0 .0))) d, rw (c .before .read .given .1), see-id sk (c .before .read .given .0 .0) (subst (λ (x : LineRead). LineFits text x) (c .before .read .given .1) fit))
+
+returns-2 : tie.Need-returns-2
+returns-2 c = λ text d sk fit. (withSaid (saidRank (c .before .read2 .given .0 .0)) d, rw (c .before .read2 .given .1), see-rank sk (c .before .read2 .given .0 .0))
+
+returns-3 : tie.Need-returns-3
+returns-3 c = λ text d sk fit. (withSaid (saidCondition (conditionIn text (c .before .enum-told .given .0 .0))) d, rw (c .before .enum-told .given .1), see-condition sk (conditionIn text (c .before .enum-told .given .0 .0)))
+
+returns-4 : tie.Need-returns-4
+returns-4 c = λ text d sk fit. (withSaid (saidAction (c .before .before .read3 .given .0 .0 .acting) (c .before .before .read3 .given .0 .0 .otherwise) (actionIn text (c .before .before .read3 .given .0 .0 .action))) d, rw (c .before .before .read3 .given .1), see-action sk (c .before .before .read3 .given .0 .0 .acting) (c .before .before .read3 .given .0 .0 .otherwise) (actionIn text (c .before .before .read3 .given .0 .0 .action)))
+
+returns-5 : tie.Need-returns-5
+returns-5 c = λ text d sk fit. rw (c .before .read4 .given .1)
+
+pub see-spec : {M : Type 1} → statement M
+see-spec =
+    tie.close
+    (tie.spec
+    enum-known-read
+    enum-known-read-2
+    enum-told
+    add-t12
+    enum-known-read-3
+    add-t14
+    enum-known-read-4
+    returns
+    returns-2
+    returns-3
+    returns-4
+    returns-5)

@@ -1,0 +1,31 @@
+-- `rule_values::number_value` meets its contract. Assumes nothing.
+use mathlib.Core.Path.{_≡_, refl, sym, ap, _∙_, subst}
+use borrow.Author.Needs.{needs}
+use Rattle.rule_values.proofs.number_value.Statement.{statement}
+use Rattle.rule_values.proofs.number_value.Tie as tie
+
+read-number-requires : tie.Need-read-number-requires
+read-number-requires c κs = search needs
+
+enum-known-n : tie.Need-enum-known-n
+enum-known-n c = search needs
+
+enum-told : tie.Need-enum-told
+enum-told c = search needs
+
+enum-told-2 : tie.Need-enum-told-2
+enum-told-2 c = search needs
+
+returns : tie.Need-returns
+returns c = rw (sym (c .before .before .before .read-number .ensures .0) ∙ c .before .n .given .1)
+
+returns-2 : tie.Need-returns-2
+returns-2 c = rw (sym (c .before .before .read-number .ensures .0) ∙ c .enum-told .given .1)
+
+returns-3 : tie.Need-returns-3
+returns-3 c = rw (sym (c .before .before .read-number .ensures .0) ∙ c .enum-told2 .given .1)
+
+pub number-value-spec : {M : Type 1} → statement M
+number-value-spec =
+    tie.close
+    (tie.spec read-number-requires enum-known-n enum-told enum-told-2 returns returns-2 returns-3)

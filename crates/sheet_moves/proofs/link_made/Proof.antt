@@ -1,0 +1,24 @@
+use mathlib.Core.Path.{_∙_}
+use borrow.Author.Needs.{needs}
+use Rattle.sheet_moves.proofs.link_made.Statement.{statement}
+use Rattle.sheet_moves.proofs.link_made.Tie as tie
+use Rattle.sheet_moves.proofs.link_made.Reads as reads
+use Rattle.sheet_moves.proofs.link_made.Lts as lts
+use Rattle.sheet_moves.proofs.link_moves.Reads as link-moves-reads
+use Rattle.sheet_moves.proofs.made_by.Reads as made-by-reads
+
+link-moves-requires : tie.Need-link-moves-requires
+link-moves-requires c κs = search needs
+
+link-moves-requires-2 : tie.Need-link-moves-requires-2
+link-moves-requires-2 c κs = search needs
+
+made-by-requires : tie.Need-made-by-requires
+made-by-requires c κs = (c .before .link-moves .ensures .0, c .link-moves2 .ensures .0)
+
+returns : tie.Need-returns
+returns c = (c .made-by .ensures .0, λ m t. c .made-by .ensures .1 ∙ rw (c .before .before .link-moves .ensures .1 m t, c .before .link-moves2 .ensures .1 m t))
+
+pub link-made-spec : {M : Type 1} → statement M
+link-made-spec =
+    tie.close (tie.spec link-moves-requires link-moves-requires-2 made-by-requires returns)

@@ -1,0 +1,72 @@
+use Prim.Native.Nat.{_-_, _+_, _≤_}
+use native.Mathlib.Omega.{arith}
+use mathlib.Core.Path.{_≡_, _∙_}
+use mathlib.Core.Bool.{Bool}
+use denote.Ref.{now}
+use lib.ListN.{length}
+use borrow.Author.Needs.{needs}
+use Rattle.scope.specs.Records.{Network}
+use Rattle.stored_records.specs.Back.{Stands}
+use Rattle.sheet_actions.specs.Steps.{Few}
+use Rattle.sheet_moves.proofs.MovesLaws.{sofar, none-yet, then-one-more, all-of-them, few-none, few-more, few-within}
+use Rattle.sheet_moves.proofs.moves_between.Statement.{statement}
+use Rattle.sheet_moves.proofs.moves_between.Tie as tie
+use Rattle.sheet_moves.proofs.moves_between.Reads as reads
+use Rattle.sheet_moves.proofs.moves_between.Lts as lts
+use Rattle.sheet_actions.proofs.with_clause.Reads as with-clause-reads
+use Rattle.stored_records.proofs.clause_at.Reads as clause-at-reads
+
+abbrev Inv-loop : tie.InvT-loop
+Inv-loop words numbers first end which otherwise n₀ k₀ n k =
+    (first ≤ k) × (k - first ≤ end - first) × Few (k - first) n × ((m : Network) → Stands m words numbers → end ≤ length (m .clauses) → n ≡ sofar which otherwise (m .clauses) first k)
+
+abbrev μ-loop : tie.MeasureT-loop
+μ-loop words numbers first end which otherwise n₀ k₀ n k =
+    end - k
+
+loop-holds : tie.Need-loop-holds Inv-loop μ-loop
+loop-holds c = (omega arith, omega arith, few-none _, λ m g le. none-yet (c .before .before .args .which) (c .before .before .args .otherwise) (m .clauses) (c .before .before .args .first))
+
+clause-at-requires : tie.Need-clause-at-requires Inv-loop μ-loop
+clause-at-requires c κs = search needs
+
+with-clause-requires : tie.Need-with-clause-requires Inv-loop μ-loop
+with-clause-requires c κs = few-within (omega arith) (c .before .before .loop .inv .2)
+
+add-k : tie.Need-add-k Inv-loop μ-loop
+add-k c = search needs
+
+loop-less : tie.Need-loop-less Inv-loop μ-loop
+loop-less c = search needs
+
+loop-again : tie.Need-loop-again Inv-loop μ-loop
+loop-again c =
+    let more : Few (c .before .before .before .loop .k - c .before .before .before .before .before .before .args .first + 1) (c .with-clause .result) = rw (c .with-clause .ensures) (few-more (c .before .before .before .before .before .before .args .which) (c .before .before .before .before .before .before .args .otherwise) (c .before .clause-at .result) (c .before .before .before .loop .inv .2)) in (
+      omega arith,
+      omega arith,
+      few-within (omega arith) more,
+      λ m g le.
+          rw (c .with-clause .ensures, c .before .clause-at .ensures m g)
+          (then-one-more (c .before .before .before .before .before .before .args .which) (c .before .before .before .before .before .before .args .otherwise) (m .clauses) (c .before .before .before .before .before .before .args .first) (c .before .before .before .loop .k) (c .before .before .before .loop .n) (c .before .before .before .loop .inv .0) (omega arith) (c .before .before .before .loop .inv .3 m g le)),
+    )
+
+returns : tie.Need-returns Inv-loop μ-loop
+returns c = (
+  few-within (omega arith) (c .before .loop .inv .2),
+  λ m g le.
+      all-of-them (c .before .before .before .before .args .which) (c .before .before .before .before .args .otherwise) (m .clauses) (c .before .before .before .before .args .first) (c .before .loop .k) (c .before .before .before .before .args .end) (c .before .loop .n) (c .before .loop .inv .0) (omega arith) (c .before .loop .inv .1) (c .before .loop .inv .3 m g le),
+)
+
+pub moves-between-spec : {M : Type 1} → statement M
+moves-between-spec =
+    tie.close
+    (tie.spec
+    Inv-loop
+    μ-loop
+    loop-holds
+    clause-at-requires
+    with-clause-requires
+    add-k
+    loop-less
+    loop-again
+    returns)

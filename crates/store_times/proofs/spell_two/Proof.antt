@@ -1,0 +1,20 @@
+-- `store_times::spell_two` meets its contract. Assumes nothing.
+use mathlib.Core.Path.{sym, _∙_}
+use borrow.Author.Needs.{needs}
+use Rattle.store_times.proofs.spell_two.Statement.{statement}
+use Rattle.store_times.proofs.spell_two.Tie as tie
+
+spells-requires : tie.Need-spells-requires
+spells-requires c κs = search needs
+
+spells-requires-2 : tie.Need-spells-requires-2
+spells-requires-2 c κs = search needs
+
+returns : tie.Need-returns
+returns c = rw (sym (c .before .before .spells .ensures) ∙ c .before .if1 .taken) (c .spells2 .ensures)
+
+returns-2 : tie.Need-returns-2
+returns-2 c = rw (sym (c .before .spells .ensures) ∙ c .if1 .left)
+
+pub spell-two-spec : {M : Type 1} → statement M
+spell-two-spec = tie.close (tie.spec spells-requires spells-requires-2 returns returns-2)

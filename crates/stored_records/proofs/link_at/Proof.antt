@@ -1,0 +1,31 @@
+use denote.Ref.{now}
+use mathlib.Core.Path.{sym, ap, _∙_}
+use lib.ListN.{length}
+use Rattle.scope.specs.Records.{noLink}
+use Rattle.table_rows.proofs.ClearLaws.{zero-number}
+use Rattle.stored_records.specs.Back.{linkBack}
+use Rattle.table_rows.proofs.RoomLaws.{rooms-are}
+use Rattle.stored_records.proofs.PastLaws.{past-both}
+use Rattle.scope.specs.Sections.{roomLinks}
+use borrow.Author.Needs.{needs}
+use Rattle.stored_records.proofs.link_at.Statement.{statement}
+use Rattle.stored_records.proofs.link_at.Tie as tie
+use Rattle.stored_records.proofs.link_at.Reads as reads
+use Rattle.stored_records.proofs.link_at.Lts as lts
+use Rattle.table_rows.proofs.have_room.Reads as have-room-reads
+use Rattle.stored_records.proofs.link_row.Reads as link-row-reads
+
+have-room-requires : tie.Need-have-room-requires
+have-room-requires c κs = search needs
+
+link-row-requires : tie.Need-link-row-requires
+link-row-requires c κs = rooms-are (length (now (c .before .before .before .before .args .words))) roomLinks (c .before .before .before .before .args .i) (length (now (c .before .before .before .before .args .numbers))) (sym (c .before .have-room .ensures) ∙ c .if1 .taken)
+
+returns : tie.Need-returns
+returns c = search needs
+
+returns-2 : tie.Need-returns-2
+returns-2 c = λ m g. rw zero-number (ap linkBack (past-both g (m .links) noLink (c .before .before .before .before .args .i) (g .words .known .links .bound) (sym (c .before .have-room .ensures) ∙ c .if1 .left)))
+
+pub link-at-spec : {M : Type 1} → statement M
+link-at-spec = tie.close (tie.spec have-room-requires link-row-requires returns returns-2)

@@ -1,0 +1,24 @@
+use borrow.Author.Tests.{lt-ltb, le-ltb}
+use borrow.Author.Needs.{needs}
+use Rattle.table_codes.proofs.target_from.Statement.{statement}
+use Rattle.table_codes.proofs.target_from.Tie as tie
+use Rattle.table_codes.proofs.target_from.Reads as reads
+use Rattle.table_codes.proofs.target_from.Lts as lts
+use Rattle.table_codes.proofs.system_or_node.Reads as system-or-node-reads
+use Rattle.table_codes.proofs.tank_or_link.Reads as tank-or-link-reads
+
+system-or-node-requires : tie.Need-system-or-node-requires
+system-or-node-requires c κs = search needs
+
+returns : tie.Need-returns
+returns c = rw (lt-ltb (c .before .before .args .n) 7 (c .before .if1 .taken), c .system-or-node .ensures)
+
+tank-or-link-requires : tie.Need-tank-or-link-requires
+tank-or-link-requires c κs = search needs
+
+returns-2 : tie.Need-returns-2
+returns-2 c = rw (le-ltb (c .before .before .args .n) 7 (c .before .if1 .left), c .tank-or-link .ensures)
+
+pub target-from-spec : {M : Type 1} → statement M
+target-from-spec =
+    tie.close (tie.spec system-or-node-requires returns tank-or-link-requires returns-2)

@@ -1,0 +1,48 @@
+-- `table_rows::find` meets its contract. Assumes nothing.
+use denote.Ref.{now}
+use mathlib.Core.Path.{_∙_}
+use Rattle.scope.specs.Records.{idsOf}
+use Rattle.table_rows.proofs.EmptyLaws.{words-long}
+use Rattle.table_rows.proofs.FindLaws.{base-small, ids-long, kind-rows}
+use borrow.Author.Needs.{needs}
+use Rattle.table_rows.proofs.find.Statement.{statement}
+use Rattle.table_rows.proofs.find.Tie as tie
+use Rattle.table_rows.proofs.find.Reads as reads
+use Rattle.table_rows.proofs.find.Lts as lts
+use Rattle.table_rows.proofs.base_of.Reads as base-of-reads
+use Rattle.table_rows.proofs.start_of.Reads as start-of-reads
+use Rattle.table_rows.proofs.walk_rows.Reads as walk-rows-reads
+use Rattle.table_rows.proofs.width_of.Reads as width-of-reads
+
+start-of-requires : tie.Need-start-of-requires
+start-of-requires c κs = words-long (c .before .before .before .pre .0 .1)
+
+base-of-requires : tie.Need-base-of-requires
+base-of-requires c κs = search needs
+
+width-of-requires : tie.Need-width-of-requires
+width-of-requires c κs = search needs
+
+walk-rows-requires : tie.Need-walk-rows-requires
+walk-rows-requires c κs =
+    let a = c .before .before .before .before .before .before .args in
+    let h = c .before .before .before .before .before .before .pre in
+    let p = h .0 in
+    let at = c .before .before .start-of .ensures in
+    rw (c .before .base-of .ensures, c .width-of .ensures) (
+      record { names = idsOf (a .kind) (p .0); long = p .2 ∙ ids-long (a .kind) (p .0); rows = kind-rows (p .1) (a .kind) },
+      base-small (a .kind),
+      h .1,
+      at .0,
+      at .1 (now (a .text)) (p .0) (p .1) (p .2) (now (a .name)) (h .1),
+    )
+
+returns : tie.Need-returns
+returns c =
+    let k = c .before .before .before .before .before .before .before .args .kind in
+    λ m h e. c .walk-rows .ensures (idsOf k m) (e ∙ ids-long k m) (rw (c .before .before .base-of .ensures, c .before .width-of .ensures) (kind-rows h k))
+
+pub find-spec : {M : Type 1} → statement M
+find-spec =
+    tie.close
+    (tie.spec start-of-requires base-of-requires width-of-requires walk-rows-requires returns)

@@ -1,0 +1,17 @@
+use denote.Ref.{now}
+use lib.ListN.{length}
+use borrow.Author.Tests.{le-leb, lt-leb}
+use Rattle.scope.specs.Layout.{recordWords}
+use Rattle.table_rows.proofs.has_room.Statement.{statement}
+use Rattle.table_rows.proofs.has_room.Tie as tie
+use Rattle.table_rows.proofs.has_room.Reads as reads
+use Rattle.table_rows.proofs.has_room.Lts as lts
+
+returns : tie.Need-returns
+returns c = rw (le-leb recordWords (length (now (c .before .args .words))) (c .if1 .taken))
+
+returns-2 : tie.Need-returns-2
+returns-2 c = rw (lt-leb recordWords (length (now (c .before .args .words))) (c .if1 .left))
+
+pub has-room-spec : {M : Type 1} → statement M
+has-room-spec = tie.close (tie.spec returns returns-2)

@@ -1,0 +1,54 @@
+use Prim.Native.Nat.{_-_, _≤_}
+use borrow.Author.Needs.{needs}
+use Rattle.write_rules.proofs.show_rules.Statement.{statement}
+use Rattle.write_rules.proofs.show_rules.Tie as tie
+use Rattle.write_rules.proofs.show_rules.Reads as reads
+use Rattle.write_rules.proofs.show_rules.Lts as lts
+use Rattle.write_rules.proofs.show_rule.Reads as show-rule-reads
+use Rattle.stored_records.proofs.rule_at.Reads as rule-at-reads
+use Rattle.stored_counts.proofs.counts_at.Reads as counts-at-reads
+
+abbrev Inv-loop : tie.InvT-loop
+Inv-loop text words numbers all i₀ i = i ≤ all
+
+abbrev μ-loop : tie.MeasureT-loop
+μ-loop text words numbers all i₀ i = all - i
+
+counts-at-requires : tie.Need-counts-at-requires Inv-loop μ-loop
+counts-at-requires c κs = search needs
+
+loop-holds : tie.Need-loop-holds Inv-loop μ-loop
+loop-holds c = search needs
+
+rule-at-requires : tie.Need-rule-at-requires Inv-loop μ-loop
+rule-at-requires c κs = search needs
+
+show-rule-requires : tie.Need-show-rule-requires Inv-loop μ-loop
+show-rule-requires c κs = search needs
+
+add-i : tie.Need-add-i Inv-loop μ-loop
+add-i c = search needs
+
+loop-less : tie.Need-loop-less Inv-loop μ-loop
+loop-less c = search needs
+
+loop-again : tie.Need-loop-again Inv-loop μ-loop
+loop-again c = search needs
+
+returns : tie.Need-returns Inv-loop μ-loop
+returns c = search needs
+
+pub show-rules-spec : {M : Type 1} → statement M
+show-rules-spec =
+    tie.close
+    (tie.spec
+    Inv-loop
+    μ-loop
+    counts-at-requires
+    loop-holds
+    rule-at-requires
+    show-rule-requires
+    add-i
+    loop-less
+    loop-again
+    returns)
