@@ -2,7 +2,7 @@
 use mathlib.Core.Path.{_≡_, refl, sym, ap, _∙_}
 use mathlib.Core.Bool.{Bool, true, false, not, cond, _||_}
 use mathlib.Core.List.{List, [], _∷_}
-use Prim.Native.Nat.{ℕ, suc, _+_, _-_, _*_, _/_, _^_, _≤_, _<_}
+use Prim.Native.Nat.{ℕ, _+_, _-_, _*_, _^_, _≤_, _<_}
 use native.Mathlib.Nat.{le-trans}
 use native.Mathlib.Numerals.{add-one}
 use native.Mathlib.Omega.{arith}
@@ -16,7 +16,7 @@ use Rattle.leaf_counts.specs.declared.Count.the-variants.{Whole, Uncount
 use Rattle.leaf_digits.specs.Bytes.{is}
 use Rattle.leaf_digits.specs.Digits.{digits, after, value, empty}
 use Rattle.leaf_counts.specs.Counts.{whole, countOf}
-use Rattle.leaf_digits.proofs.Digits.{digits-yes, digits-no, digits-nil, value-nil, value-cons}
+use Rattle.leaf_digits.proofs.Digits.{digits-yes, digits-no, value-cons}
 use Rattle.leaf_digits.proofs.Lists.{head-of, nil-of}
 
 -- what a count is whose last digits are those of s, with those of a before them

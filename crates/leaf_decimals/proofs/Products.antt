@@ -2,7 +2,7 @@
 use mathlib.Core.Path.{_≡_, refl, sym, ap, _∙_, subst}
 use mathlib.Core.Bool.{Bool, true, false}
 use Prim.Native.Nat.{ℕ, _*_, _^_, _≤_}
-use native.Mathlib.Nat.{mul-assoc, mul-comm, mul-one, mul-right-comm, mul-pos}
+use native.Mathlib.Nat.{mul-assoc, mul-comm, mul-one, mul-pos}
 use lib.IntN.{ℤ, pos}
 use lib.Ieee.{Float, nan, inf, fin, binary64, up, down, unlike, round, ofInt, mul}
 use lib.Ieee.Fits.{down-pos}

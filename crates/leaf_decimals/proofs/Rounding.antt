@@ -1,10 +1,10 @@
 -- The rounding theorem: `round`, by which each operation on doubles is defined, gives the nearest double to any fraction, ties to even, and an infinity
 -- exactly where the fraction is half a step or more past the largest double. Assumes nothing.
 use mathlib.Core.Path.{_≡_, refl, sym, ap, _∙_, subst}
-use mathlib.Core.Logic.{_⊎_, inl, inr}
+use mathlib.Core.Logic.{inl, inr}
 use mathlib.Core.Bool.{Bool, true, false, cond}
 use Prim.Native.Nat.{ℕ, zero, suc, _+_, _-_, _*_, _/_, _^_, _≤_, _<_}
-use native.Mathlib.Nat.{le-of-eq, lt-of-lt-of-le, lt-of-le-of-lt, le-trans, zero-lt-suc, mul-comm, mul-assoc, mul-right-comm, mul-one, mul-le-mul-right, mul-lt-mul-of-pos-right, mul-pos, div-lt-iff-lt-mul}
+use native.Mathlib.Nat.{le-of-eq, lt-of-lt-of-le, lt-of-le-of-lt, le-trans, zero-lt-suc, mul-comm, mul-assoc, mul-right-comm, mul-one, mul-le-mul-right, mul-lt-mul-of-pos-right, div-lt-iff-lt-mul}
 use native.Mathlib.Omega.{arith}
 use lib.Dec.{T, ltb, lit<, lit≤}
 use lib.Pow.{pow-add, pow-pos, pow-mono, pow-lt}
@@ -13,7 +13,7 @@ use lib.Ieee.Digits.{size-le}
 use lib.Ieee.Fits.{round-is}
 use lib.Ieee.Order.{drop, kept, round-mono}
 use lib.Ieee.Scale.{grid, overflow}
-use Rattle.leaf_decimals.specs.Nearest.{gap, IsNearest, limit, Rounded}
+use Rattle.leaf_decimals.specs.Nearest.{gap, limit, Rounded}
 use Rattle.leaf_decimals.specs.Reach.{signed}
 use Rattle.leaf_decimals.proofs.Whole.{le-or-lt, closest-least}
 use Rattle.leaf_decimals.proofs.Units.{step-pos}

@@ -3,14 +3,14 @@ use mathlib.Core.Path.{_≡_, refl, sym, ap, _∙_, subst}
 use mathlib.Core.Logic.{_⊎_, inl, inr}
 use mathlib.Core.Bool.{Bool, true, false, not, _&&_, Bool·beq, cond}
 use Prim.Native.Nat.{ℕ, zero, suc, _+_, _-_, _*_, _/_, _%_, _^_, _≤_, _<_, compare}
-use native.Mathlib.Nat.{le-trans, le-of-eq, lt-of-lt-of-le, lt-of-le-of-lt, mul-comm, mul-assoc, mul-left-comm, mul-right-comm, mul-add, mul-one, zero-mul, mul-le-mul-right, mul-le-mul-left, mul-lt-mul-of-pos-right, mul-pos, le-of-mul-le-mul-left, eq-of-mul-eq-mul-left, eq-of-mul-eq-mul-right, div-mul-le-self, div-le-self, div-lt-iff-lt-mul, pow-suc, lt-irrefl, zero-lt-suc, le-add-left, div-div-eq-div-mul, not-le-of-lt}
+use native.Mathlib.Nat.{le-trans, le-of-eq, lt-of-le-of-lt, mul-comm, mul-assoc, mul-left-comm, mul-right-comm, mul-add, mul-one, zero-mul, mul-le-mul-left, mul-pos, le-of-mul-le-mul-left, eq-of-mul-eq-mul-left, eq-of-mul-eq-mul-right, div-mul-le-self, div-le-self, pow-suc, lt-irrefl, zero-lt-suc, le-add-left, div-div-eq-div-mul, not-le-of-lt}
 use native.Mathlib.Omega.{arith}
 use lib.IntN.{ℤ, pos, negsuc}
 use lib.Dec.{T, lit<, leb, ltb, eqb, leb→le, ltb→lt, lt→ltb, eqb→eq, nleb→lt}
-use lib.Pow.{pow-add, pow-pos, pow-mono, pow-lt}
+use lib.Pow.{pow-add, pow-pos, pow-lt}
 use lib.Count.{trailingZeros, under}
-use lib.Ieee.{Float, nan, inf, fin, Format, binary32, binary64, prec, emax, low, up, down, minus, size, odd, units, round, fits}
-use lib.Ieee.Digits.{back, size-le}
+use lib.Ieee.{Float, nan, inf, fin, Format, binary32, binary64, prec, emax, low, up, down, minus, odd, units, round, fits}
+use lib.Ieee.Digits.{back}
 use lib.Ieee.Fits.{and-l, and-r, down-pos, round-is, round-fits, two, two-le-pos, nearest-le, kept-lt}
 use lib.Ieee.Exact.{HasValue, units-val}
 use lib.Ieee.Order.{drop, kept}

@@ -1,17 +1,17 @@
 -- No two doubles are nearest to the same fraction. Two that were would both be even, and each even double has a double half a step above it and one half
 -- a step below it: of these one lies between the two, and it is nearer. Assumes nothing.
 use mathlib.Core.Path.{_≡_, refl, sym, ap, _∙_, subst}
-use mathlib.Core.Logic.{_⊎_, inl, inr}
+use mathlib.Core.Logic.{inl, inr}
 use mathlib.Core.Bool.{Bool, true, false, _&&_, cond}
 use Prim.Native.Nat.{ℕ, zero, suc, _+_, _-_, _*_, _/_, _%_, _^_, _≤_, _<_}
-use native.Mathlib.Nat.{le-trans, le-of-eq, le-of-lt, lt-of-lt-of-le, lt-of-le-of-lt, lt-trans, mul-comm, mul-assoc, mul-left-comm, mul-right-comm, mul-add, add-mul, suc-mul, mul-one, one-mul, zero-mul, mul-le-mul-right, mul-le-mul-left, mul-lt-mul-of-pos-right, mul-pos, le-of-mul-le-mul-left, lt-of-mul-lt-mul-right, eq-of-mul-eq-mul-right, eq-or-lt-of-le, le-antisymm, mul-div-cancel, pow-suc, zero-lt-suc, lt-irrefl}
+use native.Mathlib.Nat.{le-trans, le-of-eq, le-of-lt, lt-of-lt-of-le, lt-of-le-of-lt, lt-trans, mul-comm, mul-assoc, mul-right-comm, add-mul, suc-mul, mul-one, one-mul, zero-mul, mul-le-mul-right, mul-le-mul-left, mul-lt-mul-of-pos-right, mul-pos, le-of-mul-le-mul-left, lt-of-mul-lt-mul-right, eq-of-mul-eq-mul-right, eq-or-lt-of-le, le-antisymm, mul-div-cancel, pow-suc, lt-irrefl}
 use native.Mathlib.Omega.{arith}
 use lib.IntN.{ℤ, pos, negsuc}
 use lib.Dec.{T, lit<, leb, ltb, eqb, ltb→lt}
 use lib.Pow.{pow-add, pow-pos, pow-mono, pow-lt}
-use lib.Ieee.{Float, nan, inf, fin, binary64, up, down, size, odd, fits, top, hid, ones, toBits, ofBits}
+use lib.Ieee.{Float, nan, inf, fin, binary64, up, down, size, odd, fits, top, hid, toBits, ofBits}
 use lib.Ieee.Digits.{back}
-use lib.Ieee.Fits.{and-l, and-r, down-pos, odd-fits}
+use lib.Ieee.Fits.{and-r, down-pos, odd-fits}
 use lib.Ieee.Exact.{HasValue, odd-sign}
 use lib.Ieee.Bits.{ofBits-toBits}
 use Rattle.leaf_decimals.specs.Nearest.{gap, apart, off, Even, Nearest, IsNearest}

@@ -4,17 +4,16 @@ use mathlib.Core.List.{List}
 use mathlib.Core.Logic.{_⊎_, inl, inr}
 use mathlib.Core.Bool.{Bool, true, false, not, cond, _&&_, _||_}
 use Prim.Native.Nat.{ℕ, zero, suc, _+_, _-_, _*_, _^_, _≤_, _<_}
-use native.Mathlib.Nat.{le-of-eq, lt-of-lt-of-le, lt-of-le-of-lt, zero-lt-suc, mul-comm, mul-assoc, mul-mul-mul-comm, mul-one, one-mul, zero-mul, mul-pos, mul-le-mul, mul-lt-mul-of-pos-right, pow-suc, pow-le-pow-right, eq-zero-or-pos}
+use native.Mathlib.Nat.{le-of-eq, lt-of-lt-of-le, lt-of-le-of-lt, zero-lt-suc, mul-comm, mul-assoc, mul-mul-mul-comm, mul-one, zero-mul, mul-pos, mul-le-mul, mul-lt-mul-of-pos-right, pow-suc, pow-le-pow-right, eq-zero-or-pos}
 use native.Mathlib.Omega.{arith}
 use lib.IntN.{pos}
-use lib.Dec.{T, leb, ltb, eqb, ltb→lt, lit<, lit≤, leb→le}
+use lib.Dec.{T, leb, ltb, eqb, ltb→lt, lit<, leb→le}
 use lib.Pow.{pow-add, pow-mono, shl-lt}
-use lib.Ieee.{Float, nan, inf, fin, Format, binary64, prec, emax, low, up, down, odd, units, round, ofInt, mul, div, neg}
-use lib.Ieee.Fits.{round-is, and-l, and-r}
+use lib.Ieee.{Float, nan, inf, fin, Format, binary64, emax, low, up, down, round, ofInt, mul, div, neg}
+use lib.Ieee.Fits.{and-l, and-r}
 use lib.Ieee.Exact.{HasValue, round-exact}
 use lib.Ieee.Back.{round-whole}
 use lib.Ieee.Scale.{round-same}
-use lib.Ieee.Order.{drop, kept}
 use lib.Ieee.Positive.{num, den, positive, den-pos, value→cross, positive-of-value, mul-at}
 use borrow.Author.Tests.{ne-eqb, eqb-true}
 use Rattle.leaf_decimals.specs.declared.Number.{Number}

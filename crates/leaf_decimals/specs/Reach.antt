@@ -1,7 +1,7 @@
 -- Which decimal numbers are within reach, and the double that each gives, as one operation makes it. Document 01, "Numbers and times": "Within reach: the three
 -- words; W = 0 with any E; or W at most 9,007,199,254,740,992 and E from -22 to 22." That the double is the nearest one is said in Numbers. Assumes nothing.
 use mathlib.Core.Bool.{Bool, true, false, cond, _&&_, _||_}
-use Prim.Native.Nat.{ℕ, _+_, _-_, _*_, _^_}
+use Prim.Native.Nat.{ℕ, _+_, _-_, _^_}
 use lib.IntN.{pos}
 use lib.Dec.{leb, eqb}
 use lib.Ieee.{Float, binary64, ofInt, mul, div, neg, fin}

@@ -2,11 +2,11 @@
 use mathlib.Core.Path.{_≡_, refl}
 use mathlib.Core.Bool.{true, false}
 use mathlib.Core.List.{List, [], _∷_, map}
-use Prim.Native.Nat.{ℕ, _*_}
+use Prim.Native.Nat.{ℕ}
 use native.Mathlib.Nat.{not-le-of-lt}
 use lib.Dec.{lit<}
 use lib.IntN.{pos, negsuc}
-use lib.Ieee.{Float, fits, fin, inf, ofBits, binary64, ofInt, mul, div, neg}
+use lib.Ieee.{fits, fin, inf, ofBits, binary64, ofInt, mul, div, neg}
 use Rattle.leaf_decimals.specs.declared.Number.{Number}
 use Rattle.leaf_decimals.specs.declared.Number.the-variants.{Value, Malformed, Beyond}
 use Rattle.leaf_decimals.specs.Numbers.{numberOf, numberAnswer}

@@ -1,13 +1,13 @@
 -- What a line is; the lines of a group, one after another; and how they grow with the text that is read. Assumes nothing.
-use Prim.Native.Nat.{ℕ, zero, suc, _+_, _-_, _≤_, _<_}
+use Prim.Native.Nat.{ℕ, zero, _+_, _-_, _≤_, _<_}
 use native.Mathlib.Omega.{arith}
-use native.Mathlib.Nat.{add-zero, add-assoc}
+use native.Mathlib.Nat.{add-zero}
 use borrow.Author.Tests.{eqb-false, ne-eqb, ltb-true, ltb-false}
 use mathlib.Core.Path.{_≡_, refl, sym, ap, ap₂, _∙_, subst}
 use mathlib.Core.Bool.{Bool, true, false, cond, not, _||_, false≢true}
 use mathlib.Core.List.{List, [], _∷_, _++_, map, append-assoc, append-nil, map-append}
 use lib.ListN.{length, take, drop, getD, length-append, length-take, length-drop, drop-of-length-le}
-use lib.Seq.{drop-cons, take-length, take-all}
+use lib.Seq.{drop-cons, take-all}
 use lib.Dec.{eqb, ltb}
 use Rattle.leaf_digits.specs.Bytes.{classOf}
 use Rattle.leaf_fields.specs.Fields.{Name, part, fieldsOf, fieldsAt, startAt}
@@ -28,7 +28,7 @@ use Rattle.scope.specs.declared.Section.the-variants.{Junctions, Reservoirs, Ta
 use Rattle.scope.specs.Spelling.{wordRule}
 use Rattle.scope.specs.Sections.{sectionOf, isRules}
 use Rattle.scope.specs.Lines.{sortBy, sortOf, ruleFields}
-use Rattle.read_headers.specs.Own.{plainBy, ownFields, groupFields, OwnHere, OwnFrom, NextHere, NextOwn}
+use Rattle.read_headers.specs.Own.{plainBy, ownFields, groupFields, OwnHere, OwnFrom, NextOwn}
 use Rattle.read_headers.specs.declared.OwnLine.{OwnLine}
 use Rattle.read_headers.specs.declared.OwnLine.the-variants as own
 

@@ -2,7 +2,7 @@
 ghost use mathlib.Core.Path.{_≡_};
 ghost use mathlib.Core.Bool.{true, false, cond};
 ghost use Prim.Native.Nat.{_≤_, _<_};
-ghost use lib.ListN.{length, take};
+ghost use lib.ListN.{length};
 ghost use lib.Dec.{ltb};
 ghost use Rattle.scope.specs.Answers.{reasonNo};
 ghost use Rattle.scope.specs.Sections.{roomText};

@@ -1,9 +1,9 @@
 -- What a condition and an action are, from what the code was told. Assumes nothing.
 use Prim.Native.Nat.{ℕ}
-use mathlib.Core.Path.{_≡_, refl, sym, ap, _∙_}
+use mathlib.Core.Path.{_≡_, refl, ap}
 use mathlib.Core.Bool.{Bool, true, false, cond}
 use mathlib.Core.List.{List, [], _∷_}
-use mathlib.Core.Option.{Option, none, some}
+use mathlib.Core.Option.{Option, some}
 use lib.ListN.{getD}
 use Rattle.leaf_fields.specs.Fields.{Name, part, nameIn, fieldsAt}
 use Rattle.leaf_letters.specs.Words.{same}
@@ -14,14 +14,13 @@ use Rattle.scope.specs.declared.Target.{Target}
 use Rattle.scope.specs.declared.Value.{Value}
 use Rattle.scope.specs.declared.Operator.the-variants as operator
 use Rattle.scope.specs.declared.Reason.the-variants.{Missing, NotFound, UnknownWord}
-use Rattle.scope.specs.Records.{Network, Action, linkIds, lookup, noLink}
+use Rattle.scope.specs.Records.{Network, linkIds, lookup, noLink}
 use Rattle.scope.specs.Spelling.{wordRule, wordIf, wordAnd, wordOr, wordThen, wordElse, wordPriority, wordIs}
-use Rattle.scope.specs.Values.{Read, good, bad, onRead, Took, took, refused, onTook, onFound, nameFrom}
-use Rattle.scope.specs.Rules.{Aim, aimed, namedFrom, kindFits, actionOf, deedOf, Draft, ruled, conditioned, acted, anded, ranked, lineOf}
+use Rattle.scope.specs.Values.{Read, good, bad, onRead, onTook, onFound, nameFrom}
+use Rattle.scope.specs.Rules.{aimed, namedFrom, kindFits, actionOf, deedOf, Draft, ruled, conditioned, acted, anded, ranked, lineOf}
 use Rattle.rule_clauses.specs.declared.Named.{Named}
-use Rattle.rule_clauses.specs.declared.RuleWord.{RuleWord}
 use Rattle.rule_clauses.specs.declared.RuleWord.the-variants as word
-use Rattle.rule_clauses.specs.Clauses.{attributeOf, Head, headFrom, deedFrom, actionWith, actionAt, ruleWord, lineBy}
+use Rattle.rule_clauses.specs.Clauses.{attributeOf, headFrom, deedFrom, actionWith, actionAt, ruleWord, lineBy}
 
 -- an id and an attribute
 pub named-is : (k : Named) (l : List ℕ) (at : ℕ) (s t : Span) (o : Option Target) → fieldsAt l at ≡ nameIn l s ∷ fieldsAt l (s .end)

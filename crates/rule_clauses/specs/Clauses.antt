@@ -8,8 +8,6 @@ use Rattle.leaf_fields.specs.Fields.{Name, fieldsAt, nameIn, Fits}
 pub use Rattle.leaf_fields.specs.Fields.{optIn, MayFit}
 pub use Rattle.rule_values.specs.Values.{valueRead}
 use Rattle.leaf_letters.specs.Words.{same}
-use Rattle.leaf_fields.specs.declared.Span.{Span}
-use Rattle.scope.specs.declared.Reason.{Reason}
 use Rattle.scope.specs.declared.Reason.the-variants.{Missing}
 use Rattle.scope.specs.declared.Reason.the-variants as reason
 use Rattle.scope.specs.declared.Target.{Target}

@@ -1,7 +1,7 @@
 -- Document 01, "Lines and groups": what each line of a text does. The crate `lines` says how lines and groups follow one another; this is what a line is and what a
 -- section's line or a group stores. Assumes nothing.
 use Prim.Native.Nat.{ℕ}
-use mathlib.Core.Bool.{Bool, cond}
+use mathlib.Core.Bool.{cond}
 use mathlib.Core.List.{List, map}
 use Rattle.leaf_fields.specs.Fields.{Name, fieldsOf}
 use Rattle.leaf_scans.specs.Lines.{trimmed, lineKind, cutOf}

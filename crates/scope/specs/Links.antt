@@ -1,6 +1,6 @@
 -- Document 01, "Records by section": pipes, pumps and valves. Assumes nothing.
 use Prim.Native.Nat.{ℕ}
-use mathlib.Core.Bool.{Bool, false, cond}
+use mathlib.Core.Bool.{false, cond}
 use mathlib.Core.List.{List, [], _∷_, _++_}
 use mathlib.Core.Option.{Option, none, some}
 use lib.ListN.{length}
@@ -8,18 +8,16 @@ use lib.IntN.{pos}
 use lib.Dec.{ltb}
 use lib.Ieee.{Float, fin}
 use Rattle.leaf_decimals.specs.Numbers.{numberOf}
-use Rattle.leaf_decimals.specs.declared.Number as N
-use Rattle.leaf_decimals.specs.declared.Number.the-variants as number
 use Rattle.leaf_fields.specs.Fields.{Name}
 use Rattle.leaf_letters.specs.Words.{same, spelled}
-use Rattle.scope.specs.declared.Reason.the-variants.{Missing, Used, NotFound, UnknownWord, NoRoom}
+use Rattle.scope.specs.declared.Reason.the-variants.{Used, NotFound, UnknownWord, NoRoom}
 use Rattle.scope.specs.declared.PipeStatus.{PipeStatus}
 use Rattle.scope.specs.declared.PipeStatus.the-variants.{Open, Closed, CheckValve}
 use Rattle.scope.specs.declared.ValveType.{ValveType}
 use Rattle.scope.specs.declared.ValveType.the-variants.{Gpv, Tcv, Fcv, Prv, Psv, Pbv, Pcv}
 use Rattle.scope.specs.Spelling.{wordCv, wordClosed, wordSpeed, wordHead, wordPower, wordGpv, wordTcv, wordFcv, wordPrv, wordPsv, wordPbv, wordPcv}
 use Rattle.scope.specs.Sections.{roomLinks}
-use Rattle.scope.specs.Records.{Network, Link, LinkKind, pipe, pump, valve, Pipe, Pump, Valve, zeroF, withLinks, nodeIds, linkIds, lookup}
+use Rattle.scope.specs.Records.{Network, Link, LinkKind, pipe, pump, valve, Pump, zeroF, withLinks, nodeIds, linkIds, lookup}
 use Rattle.scope.specs.Values.{Read, good, bad, onRead, Took, took, refused, onTook, onFound, nameFrom, optionalFrom, numberFrom, asSwallowed, swallowedFrom}
 
 -- ---- any link

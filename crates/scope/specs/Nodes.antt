@@ -11,8 +11,8 @@ use Rattle.leaf_letters.specs.Words.{same, spelled}
 use Rattle.scope.specs.declared.Reason.the-variants.{Used, NotFound, WrongKind, NoRoom}
 use Rattle.scope.specs.Spelling.{zeroText, signStar, wordYes}
 use Rattle.scope.specs.Sections.{roomNodes, roomDemands}
-use Rattle.scope.specs.Records.{Network, Node, NodeKind, junction, reservoir, tank, Junction, Reservoir, Tank, Place, Demand, zeroF, noNode, withNodes, withDemands, nodeIds, lookup}
-use Rattle.scope.specs.Values.{Read, good, bad, onRead, Took, took, refused, onTook, onFound, nameFrom, optionalFrom, numberFrom, numberOr, swallowedFrom, flagFrom, pairOf}
+use Rattle.scope.specs.Records.{Network, Node, NodeKind, junction, reservoir, tank, Junction, Tank, Place, Demand, zeroF, noNode, withNodes, withDemands, nodeIds, lookup}
+use Rattle.scope.specs.Values.{Read, good, bad, onRead, onTook, onFound, nameFrom, optionalFrom, numberFrom, numberOr, swallowedFrom, flagFrom, pairOf}
 
 -- ---- "Junction: id, elevation, demand, pattern, disabled."
 pub record JunctionFields : Type 0 where

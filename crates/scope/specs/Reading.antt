@@ -1,8 +1,8 @@
 -- Document 01, "What a reader of a crew sheet may rely on", and the demands: what strict and survey reading answer, and what they leave in every table that is lent. Assumes nothing.
-use Prim.Native.Nat.{ℕ, _-_}
+use Prim.Native.Nat.{ℕ}
 use mathlib.Core.Bool.{Bool, true, false, cond, _||_}
-use mathlib.Core.List.{List, [], _∷_, _++_, map}
-use lib.ListN.{length, drop, replicate}
+use mathlib.Core.List.{List, [], _∷_, _++_}
+use lib.ListN.{length, drop}
 use lib.Dec.{ltb}
 use lib.Ieee.{Float}
 use Rattle.scope_lines.specs.Reader.{Reply, accepted, stopped, Standing, standing, Mark, strict, surveyMarks, surveyRecs, count}

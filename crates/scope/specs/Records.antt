@@ -3,7 +3,7 @@
 use Prim.Native.Nat.{ℕ, suc}
 use mathlib.Core.Bool.{Bool, false, cond}
 use mathlib.Core.List.{List, [], _∷_, map}
-use mathlib.Core.Option.{Option, none, some}
+use mathlib.Core.Option.{Option, none}
 use lib.ListN.{length, replicate}
 use lib.IntN.{pos}
 use lib.Ieee.{Float, fin}

@@ -15,7 +15,6 @@ use Rattle.scope.specs.declared.SystemAttribute.the-variants as system
 use Rattle.scope.specs.declared.NodeAttribute.the-variants as node
 use Rattle.scope.specs.declared.TankAttribute.the-variants as tankHas
 use Rattle.scope.specs.declared.LinkAttribute.the-variants as link
-use Rattle.scope.specs.declared.SystemAttribute.{SystemAttribute}
 use Rattle.scope.specs.declared.Target.{Target}
 use Rattle.scope.specs.declared.Target.the-variants.{System, Node, Tank, Link}
 use Rattle.scope.specs.declared.Comparison.{Comparison}
@@ -24,11 +23,9 @@ use Rattle.scope.specs.declared.Operator.{Operator}
 use Rattle.scope.specs.declared.Operator.the-variants.{And, Or}
 use Rattle.scope.specs.declared.Value.{Value}
 use Rattle.scope.specs.declared.Value.the-variants.{Number, Status}
-use Rattle.scope.specs.declared.LinkStatus.{LinkStatus}
 use Rattle.scope.specs.declared.LinkStatus.the-variants.{Open, Closed, Active}
 use Rattle.scope.specs.Spelling.{wordRule, wordIf, wordAnd, wordOr, wordThen, wordElse, wordPriority, wordSystem, wordNode, wordTank, wordLink, wordPipe, wordValve, wordPump, wordDemand, wordTime, wordClocktime, wordHead, wordPressure, wordLevel, wordFilltime, wordDraintime, wordFlow, wordStatus, wordSetting, wordIs, signEquals, wordNot, signUnequal, wordAbove, signAbove, wordBelow, signBelow, signAtLeast, signAtMost, wordOpen, wordClosed, wordActive}
 use Rattle.scope.specs.Sections.{roomRules, roomClauses}
-use Rattle.scope.specs.Records as R
 use Rattle.scope.specs.Records.{Network, LinkKind, pipe, pump, valve, Clause, condition, action, Condition, Action, withRules, withClauses, linkIds, ruleIds, lookup, noLink}
 use Rattle.scope.specs.Values.{Read, good, bad, onRead, Took, took, refused, onTook, onFound, nameFrom, asNumber, countFrom, timeAt}
 

@@ -1,6 +1,6 @@
 -- Document 01, "Records by section": curves, patterns and demands; and the patterns' places, worked out once the text is read to its end. Assumes nothing.
 use Prim.Native.Nat.{ℕ, suc, _+_}
-use mathlib.Core.Bool.{Bool, true, false, cond, _&&_}
+use mathlib.Core.Bool.{Bool, false, cond, _&&_}
 use mathlib.Core.List.{List, [], _∷_, _++_, map}
 use mathlib.Core.Option.{Option, none, some}
 use lib.ListN.{length, set, getD}
@@ -12,7 +12,7 @@ use Rattle.scope.specs.declared.Reason.the-variants.{NotFound, WrongKind
 use Rattle.scope.specs.declared.Found.{Found}
 use Rattle.scope.specs.declared.Found.the-variants.{At, Nowhere}
 use Rattle.scope.specs.Sections.{roomCurves, roomPoints, roomPatterns, roomMultipliers, roomDemands}
-use Rattle.scope.specs.Records.{Network, Node, NodeKind, junction, reservoir, tank, Reservoir, Point, Multiplier, Demand, noNode, withNodes, withCurves, withPoints, withPatterns, withMultipliers, withDemands, nodeIds, lookup}
+use Rattle.scope.specs.Records.{Network, Node, NodeKind, junction, reservoir, tank, Point, Multiplier, Demand, noNode, withNodes, withCurves, withPoints, withPatterns, withMultipliers, withDemands, nodeIds, lookup}
 use Rattle.scope.specs.Values.{Read, good, bad, onRead, onTook, onFound, nameFrom, optionalFrom, numberFrom, asNumber, pairOf}
 use Rattle.scope.specs.Nodes.{onJunction}
 

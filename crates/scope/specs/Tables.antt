@@ -4,7 +4,7 @@ use Prim.Native.Nat.{ℕ, zero, suc, _+_, _-_, _*_, _%_}
 use mathlib.Core.Bool.{Bool, true, false}
 use mathlib.Core.List.{List, [], _∷_, _++_}
 use mathlib.Core.Option.{Option, none, some}
-use lib.ListN.{length, take, drop, getD, set, replicate}
+use lib.ListN.{length, take, getD, set, replicate}
 use lib.Ieee.{Float}
 use Rattle.leaf_fields.specs.Fields.{Name}
 use Rattle.scope.specs.declared.PipeStatus.{PipeStatus}

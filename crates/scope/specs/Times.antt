@@ -1,8 +1,8 @@
 -- Document 01, "Records by section": times. Assumes nothing.
 use Prim.Native.Nat.{ℕ}
-use mathlib.Core.Bool.{Bool, cond, not, _&&_, _||_}
+use mathlib.Core.Bool.{Bool, cond, not, _&&_}
 use mathlib.Core.List.{List, [], _∷_}
-use mathlib.Core.Option.{Option, some}
+use mathlib.Core.Option.{some}
 use lib.ListN.{set}
 use Rattle.leaf_decimals.specs.Numbers.{numberOf}
 use Rattle.leaf_clock.specs.Times.{hasColon}

@@ -2,8 +2,8 @@
 ghost use mathlib.Core.Path.{_≡_};
 ghost use Prim.Native.Nat.{_+_, _*_, _%_, _≤_, _<_};
 ghost use lib.ListN.{length, take};
-ghost use Rattle.leaf_fields.specs.Fields.{Name, fieldsAt, nameIn, part, Fits, optIn, MayFit};
-ghost use Rattle.scope.specs.Records.{Network, Node, NodeKind, lookup, nodeIds};
+ghost use Rattle.leaf_fields.specs.Fields.{Name, fieldsAt, nameIn, Fits, optIn, MayFit};
+ghost use Rattle.scope.specs.Records.{Network, Node, NodeKind};
 ghost use Rattle.scope.specs.Sections.{roomNodes, roomDemands};
 ghost use Rattle.scope.specs.Values.{Read, onRead};
 ghost use Rattle.scope.specs.Nodes.{junctionNode, tankNode, junctionDemand, addJunction, addNode, junctionStep, reservoirStep, tankStep};
@@ -11,7 +11,7 @@ ghost use Rattle.scope.specs.Tables.{keyOf, marked, slotOf, idWords, nodeNumber
 ghost use Rattle.table_rows.specs.Table.{splice};
 ghost use Rattle.scope.specs.Layout.{nodesAt, nodesWidth, nodeSlotsAt, nodeNumbersAt, nodeNumbersWidth, demandsAt, demandsWidth, demandSlotsAt, demandNumbersAt, recordWords, roomNumbers, demandSlotsLong};
 ghost use Rattle.table_rows.specs.Adding.{nodeAdded, demandAdded};
-ghost use Rattle.table_rows.specs.Holding.{Words, Holds, Sound, After};
+ghost use Rattle.table_rows.specs.Holding.{Holds, Sound, After};
 ghost use Rattle.parse_nodes.specs.Lines.{junctionIn, reservoirIn, tankIn, NodeAs};
 ghost use Rattle.store_nodes.specs.Storing.{newNode, newWords, ownWords, KindAs};
 use leaf_fields::Field;

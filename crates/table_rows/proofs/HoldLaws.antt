@@ -3,23 +3,23 @@ use Prim.Native.Nat.{ℕ, zero, suc, _+_, _-_, _*_, _≤_, _<_}
 use native.Mathlib.Omega.{arith}
 use native.Mathlib.Nat.{mul-one}
 use mathlib.Core.Bool.{true}
-use mathlib.Core.Path.{_≡_, refl, sym, ap, _∙_, subst}
+use mathlib.Core.Path.{_≡_, refl, sym, ap, _∙_}
 use mathlib.Core.List.{List, [], _∷_, _++_, map}
 use mathlib.Core.Option.{Option, none, some}
-use lib.ListN.{length, set, getD, replicate, length-append, length-map, length-set, length-replicate}
+use lib.ListN.{length, set, getD, replicate, length-append, length-map, length-set}
 use lib.Ieee.{Float}
 use Rattle.leaf_fields.specs.Fields.{Name, nameIn, Fits, part}
 use Rattle.leaf_fields.specs.declared.Span.{Span}
 use Rattle.leaf_fields.specs.declared.Field.{Field}
 use Rattle.leaf_fields.specs.declared.Field.the-variants.{Taken, Nothing}
 use Rattle.leaf_fields.proofs.FieldLaws.{length-part}
-use Rattle.scope.specs.Records.{Network, Node, Link, Point, Multiplier, Demand, Rule, Clause, zeroF, noNetwork, countsOf, withNodes, withLinks, withCurves, withPoints, withPatterns, withMultipliers, withDemands, withTimes, withRules, withClauses, noDemand}
+use Rattle.scope.specs.Records.{Network, Node, Link, Point, Multiplier, Demand, Rule, Clause, countsOf, withNodes, withLinks, withCurves, withPoints, withPatterns, withMultipliers, withDemands, withTimes, withRules, withClauses, noDemand}
 use Rattle.scope.specs.Sections.{roomNodes, roomLinks, roomCurves, roomPoints, roomPatterns, roomMultipliers, roomDemands, roomRules, roomClauses}
 use Rattle.scope.specs.Series.{multiplierOf}
-use Rattle.scope.specs.Tables.{flat, region, blocks, idWords, countWords, nodeWords, nodeNumbers, linkWords, linkNumbers, pointWords, pointNumbers, multiplierWords, multiplierNumbers, demandWords, demandNumbers, ruleWords, clauseWords, clauseNumbers, marked, slots, idSlot, nodeSlot, linkSlot, demandSlot, wordBlocks, numberBlocks}
+use Rattle.scope.specs.Tables.{flat, region, blocks, countWords, nodeWords, nodeNumbers, linkNumbers, pointWords, pointNumbers, multiplierWords, multiplierNumbers, demandWords, demandNumbers, ruleWords, clauseWords, clauseNumbers, slots, idSlot, nodeSlot, linkSlot, demandSlot, wordBlocks, numberBlocks}
 use Rattle.scope.specs.declared.Counts.{Counts}
 use Rattle.table_rows.specs.Table.{splice}
-use Rattle.scope.specs.Layout.{curveSlotsLong, demandSlotsLong, demandsLong, linkSlotsLong, nodeSlotsLong, nodesLong, patternSlotsLong, nodesAt, linksAt, curvesAt, pointsAt, patternsAt, multipliersAt, demandsAt, timesAt, rulesAt, clausesAt, nodeSlotsAt, linkSlotsAt, curveSlotsAt, patternSlotsAt, demandSlotsAt, nodesWidth, demandsWidth, timesWidth, rulesWidth, clausesWidth, nodeNumbersAt, linkNumbersAt, pointNumbersAt, multiplierNumbersAt, demandNumbersAt, clauseNumbersAt, nodeNumbersWidth, linkNumbersWidth, pointNumbersWidth, recordWords, roomNumbers}
+use Rattle.scope.specs.Layout.{curveSlotsLong, demandSlotsLong, demandsLong, linkSlotsLong, nodeSlotsLong, nodesLong, patternSlotsLong, nodesAt, pointsAt, multipliersAt, demandsAt, timesAt, rulesAt, clausesAt, nodeSlotsAt, linkSlotsAt, curveSlotsAt, patternSlotsAt, demandSlotsAt, nodesWidth, demandsWidth, timesWidth, rulesWidth, clausesWidth, nodeNumbersAt, linkNumbersAt, pointNumbersAt, multiplierNumbersAt, demandNumbersAt, clauseNumbersAt, nodeNumbersWidth, linkNumbersWidth, pointNumbersWidth}
 use Rattle.table_rows.specs.Adding.{nodeAdded, linkAdded, curveAdded, patternAdded, demandAdded}
 use Rattle.table_rows.specs.Holding.{Sits, SitsOr, optIn, MayFit, Each, Part, NodeFine, LinkFine, PointFine, MultiplierFine, DemandFine, RuleFine, ClauseFine, Owned, Known, Words, Numbers, Holds}
 use Rattle.table_rows.proofs.SlotLaws.{slots-same}

@@ -1,5 +1,5 @@
 -- Looking a name up, one row at a time; and the key of a name, one letter at a time. Assumes nothing.
-use Prim.Native.Nat.{ℕ, zero, suc, _+_, _-_, _*_, _^_, _≤_, _<_}
+use Prim.Native.Nat.{ℕ, suc, _+_, _-_, _*_, _^_, _≤_, _<_}
 use native.Mathlib.Omega.{arith}
 use native.Mathlib.Numerals.{add-one}
 use native.Mathlib.Nat.{pow-suc, pow-le-pow-right}
@@ -15,7 +15,7 @@ use Rattle.scope.specs.Records.{lookupFrom, lookup, noName}
 use Rattle.scope.specs.Tables.{packed, keyOf, idWords}
 use Rattle.scope.specs.declared.Found.{Found}
 use Rattle.scope.specs.declared.Found.the-variants.{At, Nowhere}
-use Rattle.table_rows.specs.Holding.{Sits, Row, Rows, Below}
+use Rattle.table_rows.specs.Holding.{Row, Below}
 use Rattle.table_rows.proofs.KeyLaws.{Bytes, bytes-part, one-key}
 
 -- ---- the key: the first i letters of l make k

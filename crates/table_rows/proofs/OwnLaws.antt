@@ -1,5 +1,5 @@
 -- A demand of a junction's own line is the first in its slot, whatever is stored. Assumes nothing.
-use Prim.Native.Nat.{ℕ, zero, suc, _+_, _%_, _≤_, _<_}
+use Prim.Native.Nat.{ℕ, zero, suc, _+_, _≤_, _<_}
 use native.Mathlib.Omega.{arith}
 use borrow.Author.Tests.{lt-ltb, le-ltb, eq-eqb, eqb-true}
 use mathlib.Core.Path.{_≡_, refl, sym, ap, _∙_}

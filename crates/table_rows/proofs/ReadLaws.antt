@@ -1,19 +1,18 @@
 -- What stands in the words and the numbers of a record, and the rows of names. `x0` is any record: what stands past the end of its list. Assumes nothing.
-use Prim.Native.Nat.{ℕ, zero, suc, _+_, _*_, _≤_, _<_}
+use Prim.Native.Nat.{ℕ, _+_, _*_, _≤_, _<_}
 use native.Mathlib.Omega.{arith}
-use native.Mathlib.Nat.{mul-one, add-zero}
 use mathlib.Core.Path.{_≡_, refl, sym, ap, _∙_}
 use mathlib.Core.List.{List, [], _∷_, _++_, map}
-use mathlib.Core.Option.{Option, none, some}
+use mathlib.Core.Option.{Option}
 use lib.ListN.{length, getD, length-map, List·getD-map}
 use lib.Dec.{eqb}
 use lib.Ieee.{Float}
 use Rattle.leaf_fields.specs.Fields.{Name}
 use Rattle.scope.specs.Records.{Network, Node, NodeKind, junction, reservoir, tank, Link, LinkKind, pipe, pump, valve, Point, Multiplier, Demand, Rule, Clause, noName, noNode, nodeIds, linkIds, ruleIds, noLink, noRule}
 use Rattle.scope.specs.Rules.{isPipe, isPump, isValve}
-use Rattle.scope.specs.Tables.{keyOf, kindWords, linkKindWords, placed, idWords, countWords, nodeWords, nodeNumbers, linkWords, linkNumbers, pointWords, pointNumbers, multiplierWords, multiplierNumbers, demandWords, demandNumbers, ruleWords, clauseWords, clauseNumbers}
-use Rattle.scope.specs.Layout.{nodesAt, linksAt, curvesAt, pointsAt, patternsAt, multipliersAt, demandsAt, timesAt, rulesAt, clausesAt, nodesWidth, linksWidth, idWidth, demandsWidth, timesWidth, rulesWidth, clausesWidth, nodeNumbersAt, linkNumbersAt, pointNumbersAt, multiplierNumbersAt, demandNumbersAt, clauseNumbersAt, nodeNumbersWidth, linkNumbersWidth, pointNumbersWidth, recordWords, nodeKind, linkKind, idPlace, idLength, idKey, curvesWidth, patternsWidth}
-use Rattle.table_rows.specs.Holding.{Sits, Each, NodeFine, LinkFine, RuleFine, Known, Words, Numbers, Row, Rows, isJunction, kindNo, linkKindNo}
+use Rattle.scope.specs.Tables.{keyOf, kindWords, linkKindWords, placed, idWords, countWords, nodeWords, nodeNumbers, linkWords, linkNumbers, pointNumbers, demandWords, ruleWords, clauseWords, clauseNumbers}
+use Rattle.scope.specs.Layout.{nodesAt, linksAt, curvesAt, pointsAt, patternsAt, multipliersAt, demandsAt, timesAt, rulesAt, clausesAt, nodesWidth, linksWidth, idWidth, demandsWidth, timesWidth, rulesWidth, clausesWidth, nodeNumbersAt, linkNumbersAt, pointNumbersAt, multiplierNumbersAt, demandNumbersAt, clauseNumbersAt, nodeNumbersWidth, linkNumbersWidth, pointNumbersWidth, nodeKind, linkKind, idPlace, idLength, idKey, curvesWidth, patternsWidth}
+use Rattle.table_rows.specs.Holding.{Sits, NodeFine, LinkFine, RuleFine, Known, Words, Numbers, Rows, isJunction, kindNo, linkKindNo}
 use Rattle.table_rows.proofs.RegionLaws.{row-in}
 use Rattle.table_rows.proofs.BlockLaws.{get-word}
 use Rattle.table_rows.proofs.SizeLaws.{node-words-lie, link-words-lie, curve-words-lie, point-words-lie, pattern-words-lie, multiplier-words-lie, demand-words-lie, time-words-lie, rule-words-lie, clause-words-lie, node-numbers-lie, link-numbers-lie, point-numbers-lie, multiplier-numbers-lie, demand-numbers-lie, clause-numbers-lie}

@@ -3,10 +3,9 @@ use Prim.Native.Nat.{ℕ, zero, suc, _+_, _-_, _*_, _≤_, _<_}
 use native.Mathlib.Nat.{sub-zero, zero-sub, suc-sub-suc, suc-mul, zero-mul, mul-le-mul-right}
 use native.Mathlib.Omega.{arith}
 use mathlib.Core.Path.{_≡_, refl, sym, ap, _∙_}
-use mathlib.Core.Bool.{Bool, true, false}
-use mathlib.Core.List.{List, [], _∷_, _++_, map, append-assoc, append-nil}
-use lib.ListN.{length, take, drop, set, getD, replicate, length-append, length-replicate, length-map, List·getD-append}
-use lib.Seq.{take-append-seam, drop-append-add, take-append-add, take-append-le, drop-append-le, getD-append-add, map-set-same}
+use mathlib.Core.List.{List, [], _∷_, _++_, append-assoc, append-nil}
+use lib.ListN.{length, take, drop, set, getD, replicate, length-append, length-replicate, List·getD-append}
+use lib.Seq.{take-append-seam, drop-append-add, getD-append-add}
 use Rattle.scope.specs.Tables.{flat, region}
 use Rattle.table_rows.specs.Table.{splice}
 

@@ -1,11 +1,11 @@
 -- How many places each region takes; so each lies where the layout says. Assumes nothing.
-use Prim.Native.Nat.{ℕ, _*_, _≤_, _<_}
+use Prim.Native.Nat.{ℕ}
 use native.Mathlib.Omega.{arith}
-use mathlib.Core.Path.{_≡_, refl, sym, ap, _∙_}
+use mathlib.Core.Path.{_≡_, refl}
 use mathlib.Core.List.{List, [], _∷_, map}
 use lib.ListN.{length}
-use Rattle.scope.specs.Records.{Network, Point, Multiplier, zeroF}
-use Rattle.scope.specs.Tables.{region, blocks, flag, indexNo, idWords, countWords, nodeWords, nodeNumbers, linkWords, linkNumbers, pointWords, pointNumbers, multiplierWords, multiplierNumbers, demandWords, demandNumbers, ruleWords, clauseWords, clauseNumbers, idSlot, nodeSlot, linkSlot, demandSlot, wordBlocks, numberBlocks}
+use Rattle.scope.specs.Records.{Network, zeroF}
+use Rattle.scope.specs.Tables.{region, idWords, countWords, nodeWords, nodeNumbers, linkWords, linkNumbers, pointWords, pointNumbers, multiplierWords, multiplierNumbers, demandWords, demandNumbers, ruleWords, clauseWords, clauseNumbers, idSlot, nodeSlot, linkSlot, demandSlot, wordBlocks, numberBlocks}
 use Rattle.scope.specs.Layout.{pointsWidth, multipliersWidth, multiplierNumbersWidth, demandNumbersWidth, clauseNumbersWidth, nodesLong, linksLong, curvesLong, pointsLong, patternsLong, multipliersLong, demandsLong, timesLong, rulesLong, clausesLong, nodeSlotsLong, linkSlotsLong, curveSlotsLong, patternSlotsLong, demandSlotsLong, nodeNumbersLong, linkNumbersLong, pointNumbersLong, multiplierNumbersLong, demandNumbersLong, clauseNumbersLong, nodesAt, linksAt, curvesAt, pointsAt, patternsAt, multipliersAt, demandsAt, timesAt, rulesAt, clausesAt, nodeSlotsAt, linkSlotsAt, curveSlotsAt, patternSlotsAt, demandSlotsAt, nodesWidth, linksWidth, demandsWidth, timesWidth, rulesWidth, clausesWidth, nodeNumbersAt, linkNumbersAt, pointNumbersAt, multiplierNumbersAt, demandNumbersAt, clauseNumbersAt, nodeNumbersWidth, linkNumbersWidth, pointNumbersWidth, curvesWidth, patternsWidth}
 use Rattle.scope.proofs.Widths.{count-long, node-long, node-numbers-long, link-long, link-numbers-long, demand-long, rule-long, clause-long, clause-numbers-long}
 use Rattle.table_rows.specs.Holding.{Known}

@@ -7,7 +7,6 @@ use mathlib.Core.List.{List}
 use lib.ListN.{length, getD}
 use Rattle.leaf_letters.specs.Words.{same}
 use Rattle.leaf_letters.proofs.WordLaws.{same-equal}
-use Rattle.leaf_fields.specs.Fields.{Name}
 use Rattle.scope.specs.Records.{Network, noName, noNode, noLink}
 use Rattle.scope.specs.Tables.{keyOf, slots, slotOf, idSlot, nodeSlot, linkSlot, demandSlot}
 use Rattle.scope.specs.Layout.{curveSlotsLong, demandSlotsLong, linkSlotsLong, nodeSlotsLong, patternSlotsLong, nodesAt, linksAt, curvesAt, patternsAt, nodesWidth, linksWidth, nodeSlotsAt, linkSlotsAt, curveSlotsAt, patternSlotsAt, demandSlotsAt, idKey, curvesWidth, patternsWidth}

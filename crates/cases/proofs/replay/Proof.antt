@@ -1,4 +1,4 @@
-use Prim.Native.Nat.{_-_, _≤_, _<_}
+use Prim.Native.Nat.{_-_, _≤_}
 use native.Mathlib.Omega.{arith}
 use borrow.Author.Needs.{needs}
 use denote.Ref.{now}
@@ -6,12 +6,6 @@ use lib.ListN.{length}
 use Rattle.leaf_scans.proofs.LineLaws.{end-more, end-le}
 use Rattle.cases.proofs.replay.Statement.{statement}
 use Rattle.cases.proofs.replay.Tie as tie
-use Rattle.cases.proofs.replay.Reads as reads
-use Rattle.cases.proofs.replay.Lts as lts
-use Rattle.cases.proofs.show_part.Reads as show-part-reads
-use Rattle.leaf_fields.proofs.letters_of.Reads as letters-of-reads
-use Rattle.leaf_scans.proofs.line_end.Reads as line-end-reads
-use Rattle.write_text.proofs.write.Reads as write-reads
 
 abbrev Inv-loop : tie.InvT-loop
 Inv-loop all from₀ at₀ from at =

@@ -2,11 +2,6 @@ use Prim.Native.Nat.{_-_, _≤_}
 use borrow.Author.Needs.{needs}
 use Rattle.cases.proofs.show_actions.Statement.{statement}
 use Rattle.cases.proofs.show_actions.Tie as tie
-use Rattle.cases.proofs.show_actions.Reads as reads
-use Rattle.cases.proofs.show_actions.Lts as lts
-use Rattle.cases.proofs.show_action.Reads as show-action-reads
-use Rattle.stored_records.proofs.clause_at.Reads as clause-at-reads
-use Rattle.stored_counts.proofs.counts_at.Reads as counts-at-reads
 
 abbrev Inv-loop : tie.InvT-loop
 Inv-loop words numbers all k₀ k = k ≤ all

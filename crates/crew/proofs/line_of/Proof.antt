@@ -3,10 +3,6 @@ use lib.ListN.{length}
 use borrow.Author.Needs.{needs}
 use Rattle.crew.proofs.line_of.Statement.{statement}
 use Rattle.crew.proofs.line_of.Tie as tie
-use Rattle.crew.proofs.line_of.Reads as reads
-use Rattle.crew.proofs.line_of.Lts as lts
-use Rattle.leaf_letters.proofs.cut.Reads as cut-reads
-use Rattle.stored_parts.proofs.one_if.Reads as one-if-reads
 
 abbrev Inv-loop : tie.InvT-loop
 Inv-loop text at before n₀ k₀ n k = (k ≤ length before) × (n ≤ k)

@@ -3,9 +3,6 @@ use borrow.Author.Needs.{needs}
 use Rattle.scope.specs.Sections.{roomLines}
 use Rattle.crew.proofs.refused.Statement.{statement}
 use Rattle.crew.proofs.refused.Tie as tie
-use Rattle.crew.proofs.refused.Reads as reads
-use Rattle.crew.proofs.refused.Lts as lts
-use Rattle.stored_parts.proofs.one_if.Reads as one-if-reads
 
 abbrev Inv-loop : tie.InvT-loop
 Inv-loop reasons n₀ i₀ n i = (i ≤ roomLines) × (n ≤ i)

@@ -4,9 +4,6 @@ use Rattle.scope.specs.declared.Answer.{Answer}
 use borrow.Author.Needs.{needs}
 use Rattle.inp.proofs.inp_read_strict.Statement.{statement}
 use Rattle.inp.proofs.inp_read_strict.Tie as tie
-use Rattle.inp.proofs.inp_read_strict.Reads as reads
-use Rattle.inp.proofs.inp_read_strict.Lts as lts
-use Rattle.read_strict.proofs.read_strict.Reads as read-strict-reads
 
 read-strict-requires : tie.Need-read-strict-requires
 read-strict-requires c κs = search needs

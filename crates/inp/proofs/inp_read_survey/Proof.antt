@@ -4,10 +4,6 @@ use Rattle.inp.proofs.CallLaws.{seen, few, small, surveyed}
 use borrow.Author.Needs.{needs}
 use Rattle.inp.proofs.inp_read_survey.Statement.{statement}
 use Rattle.inp.proofs.inp_read_survey.Tie as tie
-use Rattle.inp.proofs.inp_read_survey.Reads as reads
-use Rattle.inp.proofs.inp_read_survey.Lts as lts
-use Rattle.read_survey.proofs.read_survey.Reads as read-survey-reads
-use Rattle.table_rows.proofs.paste_words.Reads as paste-words-reads
 
 returns : tie.Need-returns
 returns c = few (now (c .before .before .before .before .before .before .before .args .text)) (now (c .before .before .before .before .before .before .before .args .words)) (now (c .before .before .before .before .before .before .before .args .numbers)) (now (c .before .before .before .before .before .before .before .args .classes)) (now (c .before .before .before .before .before .before .before .args .reasons)) (now (c .before .before .before .before .before .before .before .args .counts)) (c .if1 .taken)

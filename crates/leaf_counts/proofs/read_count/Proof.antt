@@ -1,9 +1,8 @@
 -- `leaf_counts::read_count` meets its contract. Assumes nothing.
 use mathlib.Core.Path.{sym, ap, _∙_}
 use mathlib.Core.List.{List}
-use Prim.Native.Nat.{ℕ, _<_}
+use Prim.Native.Nat.{ℕ}
 use native.Mathlib.Omega.{arith}
-use lib.ListN.{length}
 use Rattle.leaf_counts.specs.Counts.{whole}
 use Rattle.leaf_counts.proofs.Counts.{count-nil, count-plus, count-plain}
 use Rattle.leaf_digits.proofs.Lists.{tail-of}

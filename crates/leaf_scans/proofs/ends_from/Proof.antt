@@ -4,9 +4,6 @@ use Rattle.leaf_scans.proofs.EndLaws.{ends-last, ends-fed, ends-cut}
 use borrow.Author.Needs.{needs}
 use Rattle.leaf_scans.proofs.ends_from.Statement.{statement}
 use Rattle.leaf_scans.proofs.ends_from.Tie as tie
-use Rattle.leaf_scans.proofs.ends_from.Reads as reads
-use Rattle.leaf_scans.proofs.ends_from.Lts as lts
-use Rattle.leaf_scans.proofs.line_end.Reads as line-end-reads
 
 returns : tie.Need-returns
 returns c = λ at es. ends-last (now (c .before .before .args .text)) at _ es (c .if1 .taken)

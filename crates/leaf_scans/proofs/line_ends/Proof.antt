@@ -2,10 +2,6 @@
 use borrow.Author.Needs.{needs}
 use Rattle.leaf_scans.proofs.line_ends.Statement.{statement}
 use Rattle.leaf_scans.proofs.line_ends.Tie as tie
-use Rattle.leaf_scans.proofs.line_ends.Reads as reads
-use Rattle.leaf_scans.proofs.line_ends.Lts as lts
-use Rattle.leaf_scans.proofs.ends_from.Reads as ends-from-reads
-use Rattle.leaf_scans.proofs.line_stop.Reads as line-stop-reads
 
 line-stop-requires : tie.Need-line-stop-requires
 line-stop-requires c κs = search needs

@@ -12,14 +12,6 @@ use Rattle.scope.specs.Nodes.{junctionOf}
 use borrow.Author.Needs.{needs}
 use Rattle.parse_nodes.proofs.read_junction.Statement.{statement}
 use Rattle.parse_nodes.proofs.read_junction.Tie as tie
-use Rattle.parse_nodes.proofs.read_junction.Reads as reads
-use Rattle.parse_nodes.proofs.read_junction.Lts as lts
-use Rattle.leaf_fields.proofs.next_field.Reads as next-field-reads
-use Rattle.leaf_fields.proofs.field_end.Reads as field-end-reads
-use Rattle.parse_fields.proofs.reason_of.Reads as reason-of-reads
-use Rattle.parse_fields.proofs.take_flag.Reads as take-flag-reads
-use Rattle.parse_fields.proofs.take_number_or.Reads as take-number-or-reads
-use Rattle.parse_fields.proofs.take_swallowed.Reads as take-swallowed-reads
 
 s1 : (c : tie.After-known-told) → (fieldsAt (now (c .before .before .before .before .before .args .l)) (c .before .before .before .before .before .args .at) ≡ nameIn (now (c .before .before .before .before .before .args .l)) (c .before .f .given .0 .0) ∷ fieldsAt (now (c .before .before .before .before .before .args .l)) (c .before .f .given .0 .0 .end)) × Fits (now (c .before .before .before .before .before .args .l)) (c .before .f .given .0 .0)
 s1 c = c .before .before .before .next-field .ensures .taken _ (c .before .f .given .1)

@@ -6,9 +6,6 @@ use Rattle.leaf_fields.specs.Fields.{Fits, fieldsAt, nameIn}
 use borrow.Author.Needs.{needs}
 use Rattle.parse_pipes.proofs.read_names.Statement.{statement}
 use Rattle.parse_pipes.proofs.read_names.Tie as tie
-use Rattle.parse_pipes.proofs.read_names.Reads as reads
-use Rattle.parse_pipes.proofs.read_names.Lts as lts
-use Rattle.leaf_fields.proofs.next_field.Reads as next-field-reads
 
 s1 : (c : tie.After-known-told) → (fieldsAt (now (c .before .before .before .before .before .args .l)) (c .before .before .before .before .before .args .at) ≡ nameIn (now (c .before .before .before .before .before .args .l)) (c .before .f .given .0 .0) ∷ fieldsAt (now (c .before .before .before .before .before .args .l)) (c .before .f .given .0 .0 .end)) × Fits (now (c .before .before .before .before .before .args .l)) (c .before .f .given .0 .0)
 s1 c = c .before .before .before .next-field .ensures .taken _ (c .before .f .given .1)

@@ -12,10 +12,6 @@ use Rattle.parse_pipes.specs.Lines.{pumpIn}
 use Rattle.parse_pumps.proofs.PumpLaws.{told-pump, Pairing, none-left, lone-left, fewer, one-more, pair-refused}
 use Rattle.parse_pumps.proofs.read_pairs.Statement.{statement}
 use Rattle.parse_pumps.proofs.read_pairs.Tie as tie
-use Rattle.parse_pumps.proofs.read_pairs.Reads as reads
-use Rattle.parse_pumps.proofs.read_pairs.Lts as lts
-use Rattle.leaf_fields.proofs.next_field.Reads as next-field-reads
-use Rattle.parse_pumps.proofs.with_pair.Reads as with-pair-reads
 
 abbrev Inv-loop : tie.InvT-loop
 Inv-loop l at p₀ i₀ p i =

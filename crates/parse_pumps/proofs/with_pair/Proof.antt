@@ -11,13 +11,6 @@ use Rattle.parse_pumps.proofs.PumpLaws.{told-word, speed-set, speed-bey
 use borrow.Author.Needs.{needs}
 use Rattle.parse_pumps.proofs.with_pair.Statement.{statement}
 use Rattle.parse_pumps.proofs.with_pair.Tie as tie
-use Rattle.parse_pumps.proofs.with_pair.Reads as reads
-use Rattle.parse_pumps.proofs.with_pair.Lts as lts
-use Rattle.leaf_decimals.proofs.read_number.Reads as read-number-reads
-use Rattle.leaf_letters.proofs.equal.Reads as equal-reads
-use Rattle.leaf_fields.proofs.letters_of.Reads as letters-of-reads
-use Rattle.parse_fields.proofs.reason_of.Reads as reason-of-reads
-use Rattle.parse_fields.proofs.swallow.Reads as swallow-reads
 
 letters-of-requires : tie.Need-letters-of-requires
 letters-of-requires c κs = search needs

@@ -8,14 +8,6 @@ use Rattle.scope.specs.Nodes.{levelsOf}
 use borrow.Author.Needs.{needs}
 use Rattle.parse_tanks.proofs.read_levels.Statement.{statement}
 use Rattle.parse_tanks.proofs.read_levels.Tie as tie
-use Rattle.parse_tanks.proofs.read_levels.Reads as reads
-use Rattle.parse_tanks.proofs.read_levels.Lts as lts
-use Rattle.leaf_fields.proofs.past_field.Reads as past-field-reads
-use Rattle.parse_tanks.proofs.take_curve.Reads as take-curve-reads
-use Rattle.parse_tanks.proofs.take_overflow.Reads as take-overflow-reads
-use Rattle.parse_fields.proofs.reason_of.Reads as reason-of-reads
-use Rattle.parse_fields.proofs.take_number.Reads as take-number-reads
-use Rattle.parse_fields.proofs.take_number_or.Reads as take-number-or-reads
 
 s1 : (c : tie.After-known-told) → numberFrom (fieldsAt (now (c .before .before .before .before .before .args .l)) (c .before .before .before .before .before .args .at)) ≡ took (c .before .first .given .0 .0) (fieldsAt (now (c .before .before .before .before .before .args .l)) (c .before .first .given .0 .1 .0))
 s1 c = sym (c .before .before .before .take-number .ensures) ∙ ap (tookNumber (now (c .before .before .before .before .before .args .l))) (c .before .first .given .1)

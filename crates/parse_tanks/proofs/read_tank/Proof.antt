@@ -10,12 +10,6 @@ use Rattle.parse_tanks.proofs.TankLaws.{or-levels}
 use borrow.Author.Needs.{needs}
 use Rattle.parse_tanks.proofs.read_tank.Statement.{statement}
 use Rattle.parse_tanks.proofs.read_tank.Tie as tie
-use Rattle.parse_tanks.proofs.read_tank.Reads as reads
-use Rattle.parse_tanks.proofs.read_tank.Lts as lts
-use Rattle.leaf_fields.proofs.next_field.Reads as next-field-reads
-use Rattle.parse_tanks.proofs.read_levels.Reads as read-levels-reads
-use Rattle.parse_fields.proofs.reason_of.Reads as reason-of-reads
-use Rattle.parse_fields.proofs.take_number.Reads as take-number-reads
 
 s1 : (c : tie.After-known-told) → (fieldsAt (now (c .before .before .before .before .before .args .l)) (c .before .before .before .before .before .args .at) ≡ nameIn (now (c .before .before .before .before .before .args .l)) (c .before .f .given .0 .0) ∷ fieldsAt (now (c .before .before .before .before .before .args .l)) (c .before .f .given .0 .0 .end)) × Fits (now (c .before .before .before .before .before .args .l)) (c .before .f .given .0 .0)
 s1 c = c .before .before .before .next-field .ensures .taken _ (c .before .f .given .1)

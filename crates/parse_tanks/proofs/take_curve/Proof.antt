@@ -5,11 +5,6 @@ use Rattle.leaf_fields.specs.Fields.{Fits, fieldsAt, nameIn}
 use borrow.Author.Needs.{needs}
 use Rattle.parse_tanks.proofs.take_curve.Statement.{statement}
 use Rattle.parse_tanks.proofs.take_curve.Tie as tie
-use Rattle.parse_tanks.proofs.take_curve.Reads as reads
-use Rattle.parse_tanks.proofs.take_curve.Lts as lts
-use Rattle.leaf_letters.proofs.equal.Reads as equal-reads
-use Rattle.leaf_fields.proofs.letters_of.Reads as letters-of-reads
-use Rattle.leaf_fields.proofs.next_field.Reads as next-field-reads
 
 field : (c : tie.After-known-told) → (fieldsAt (now (c .before .before .before .before .before .args .l)) (c .before .before .before .before .before .args .at) ≡ nameIn (now (c .before .before .before .before .before .args .l)) (c .before .f .given .0 .0) ∷ fieldsAt (now (c .before .before .before .before .before .args .l)) (c .before .f .given .0 .0 .end)) × Fits (now (c .before .before .before .before .before .args .l)) (c .before .f .given .0 .0)
 field c = c .before .before .before .next-field .ensures .taken _ (c .before .f .given .1)

@@ -11,13 +11,6 @@ use Rattle.parse_valves.proofs.ValveLaws.{told-setting}
 use borrow.Author.Needs.{needs}
 use Rattle.parse_valves.proofs.read_after_type.Statement.{statement}
 use Rattle.parse_valves.proofs.read_after_type.Tie as tie
-use Rattle.parse_valves.proofs.read_after_type.Reads as reads
-use Rattle.parse_valves.proofs.read_after_type.Lts as lts
-use Rattle.parse_fields.proofs.reason_of.Reads as reason-of-reads
-use Rattle.parse_fields.proofs.take_swallowed.Reads as take-swallowed-reads
-use Rattle.parse_valves.proofs.setting_reason.Reads as setting-reason-reads
-use Rattle.parse_valves.proofs.take_overriding.Reads as take-overriding-reads
-use Rattle.parse_valves.proofs.take_setting.Reads as take-setting-reads
 
 s1 : (c : tie.After-known-told) → (settingFrom (c .before .before .before .before .before .args .kind) (fieldsAt (now (c .before .before .before .before .before .args .l)) (c .before .before .before .before .before .args .at)) ≡ took (record { value = c .before .first .given .0 .0; curve = optIn (now (c .before .before .before .before .before .args .l)) (c .before .first .given .0 .1 .0) }) (fieldsAt (now (c .before .before .before .before .before .args .l)) (c .before .first .given .0 .1 .1 .0))) × MayFit (now (c .before .before .before .before .before .args .l)) (c .before .first .given .0 .1 .0)
 s1 c = told-setting (now (c .before .before .before .before .before .args .l)) (settingFrom (c .before .before .before .before .before .args .kind) (fieldsAt (now (c .before .before .before .before .before .args .l)) (c .before .before .before .before .before .args .at))) (c .before .first .given .1) (c .before .before .before .take-setting .ensures)

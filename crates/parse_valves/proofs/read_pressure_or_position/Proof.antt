@@ -3,9 +3,6 @@ use Rattle.parse_valves.specs.Lines.{pressureOrPosition}
 use borrow.Author.Needs.{needs}
 use Rattle.parse_valves.proofs.read_pressure_or_position.Statement.{statement}
 use Rattle.parse_valves.proofs.read_pressure_or_position.Tie as tie
-use Rattle.parse_valves.proofs.read_pressure_or_position.Reads as reads
-use Rattle.parse_valves.proofs.read_pressure_or_position.Lts as lts
-use Rattle.leaf_letters.proofs.spells.Reads as spells-reads
 
 slice-aggregate-spells : tie.Need-slice-aggregate-spells
 slice-aggregate-spells c = search needs

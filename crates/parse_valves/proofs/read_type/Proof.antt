@@ -4,10 +4,6 @@ use Rattle.parse_valves.specs.Lines.{pressureOrPosition}
 use borrow.Author.Needs.{needs}
 use Rattle.parse_valves.proofs.read_type.Statement.{statement}
 use Rattle.parse_valves.proofs.read_type.Tie as tie
-use Rattle.parse_valves.proofs.read_type.Reads as reads
-use Rattle.parse_valves.proofs.read_type.Lts as lts
-use Rattle.leaf_letters.proofs.spells.Reads as spells-reads
-use Rattle.parse_valves.proofs.read_pressure_or_position.Reads as read-pressure-or-position-reads
 
 slice-aggregate-spells : tie.Need-slice-aggregate-spells
 slice-aggregate-spells c = search needs

@@ -12,15 +12,6 @@ use Rattle.parse_valves.proofs.ValveLaws.{few-valve, told-type}
 use borrow.Author.Needs.{needs}
 use Rattle.parse_valves.proofs.read_valve.Statement.{statement}
 use Rattle.parse_valves.proofs.read_valve.Tie as tie
-use Rattle.parse_valves.proofs.read_valve.Reads as reads
-use Rattle.parse_valves.proofs.read_valve.Lts as lts
-use Rattle.leaf_fields.proofs.letters_of.Reads as letters-of-reads
-use Rattle.leaf_fields.proofs.next_field.Reads as next-field-reads
-use Rattle.parse_pipes.proofs.read_names.Reads as read-names-reads
-use Rattle.parse_fields.proofs.reason_of.Reads as reason-of-reads
-use Rattle.parse_fields.proofs.take_number.Reads as take-number-reads
-use Rattle.parse_valves.proofs.read_after_type.Reads as read-after-type-reads
-use Rattle.parse_valves.proofs.read_type.Reads as read-type-reads
 
 s1 : (c : tie.After-known-told) → (fieldsAt (now (c .before .before .before .before .before .args .l)) (c .before .before .before .before .before .args .at) ≡ nameIn (now (c .before .before .before .before .before .args .l)) (c .before .three .given .0 .0 .id) ∷ nameIn (now (c .before .before .before .before .before .args .l)) (c .before .three .given .0 .0 .start) ∷ nameIn (now (c .before .before .before .before .before .args .l)) (c .before .three .given .0 .0 .end) ∷ fieldsAt (now (c .before .before .before .before .before .args .l)) (c .before .three .given .0 .0 .end .end)) × NamesFit (now (c .before .before .before .before .before .args .l)) (c .before .three .given .0 .0)
 s1 c = told-names (now (c .before .before .before .before .before .args .l)) (fieldsAt (now (c .before .before .before .before .before .args .l)) (c .before .before .before .before .before .args .at)) (c .before .three .given .1) (c .before .before .before .read-names .ensures)

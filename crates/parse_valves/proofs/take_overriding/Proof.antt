@@ -1,9 +1,6 @@
 use borrow.Author.Needs.{needs}
 use Rattle.parse_valves.proofs.take_overriding.Statement.{statement}
 use Rattle.parse_valves.proofs.take_overriding.Tie as tie
-use Rattle.parse_valves.proofs.take_overriding.Reads as reads
-use Rattle.parse_valves.proofs.take_overriding.Lts as lts
-use Rattle.leaf_fields.proofs.next_field.Reads as next-field-reads
 
 next-field-requires : tie.Need-next-field-requires
 next-field-requires c κs = search needs

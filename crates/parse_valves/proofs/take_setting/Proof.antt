@@ -7,10 +7,6 @@ use Rattle.parse_valves.proofs.ValveLaws.{no-curve-set, curve-set, numb
 use borrow.Author.Needs.{needs}
 use Rattle.parse_valves.proofs.take_setting.Statement.{statement}
 use Rattle.parse_valves.proofs.take_setting.Tie as tie
-use Rattle.parse_valves.proofs.take_setting.Reads as reads
-use Rattle.parse_valves.proofs.take_setting.Lts as lts
-use Rattle.leaf_fields.proofs.next_field.Reads as next-field-reads
-use Rattle.parse_fields.proofs.take_swallowed.Reads as take-swallowed-reads
 
 enum-told : tie.Need-enum-told
 enum-told c = search needs

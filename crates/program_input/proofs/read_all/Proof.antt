@@ -1,14 +1,9 @@
 use mathlib.Core.Path.{_≡_}
 use Prim.Native.Nat.{_-_, _≤_}
-use native.Mathlib.Omega.{arith}
 use borrow.Author.Needs.{needs}
 use lib.ListN.{length}
 use Rattle.program_input.proofs.read_all.Statement.{statement}
 use Rattle.program_input.proofs.read_all.Tie as tie
-use Rattle.program_input.proofs.read_all.Reads as reads
-use Rattle.program_input.proofs.read_all.Lts as lts
-use Rattle.io.proofs.count.Reads as count-reads
-use Rattle.libc.proofs.read.Reads as read-reads
 
 abbrev Inv-loop : tie.InvT-loop
 Inv-loop fd buffer₀ at₀ buffer at = (at ≤ length buffer) × (length buffer ≡ length buffer₀)

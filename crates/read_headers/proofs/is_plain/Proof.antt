@@ -4,9 +4,6 @@ use Rattle.read_headers.proofs.OwnLaws.{plain-nothing, plain-blank, pla
 use borrow.Author.Needs.{needs}
 use Rattle.read_headers.proofs.is_plain.Statement.{statement}
 use Rattle.read_headers.proofs.is_plain.Tie as tie
-use Rattle.read_headers.proofs.is_plain.Reads as reads
-use Rattle.read_headers.proofs.is_plain.Lts as lts
-use Rattle.leaf_fields.proofs.field_start.Reads as field-start-reads
 
 field-start-requires : tie.Need-field-start-requires
 field-start-requires c κs = search needs

@@ -1,6 +1,6 @@
 -- `read_headers::plain_sort` meets its contract. Assumes nothing.
-use mathlib.Core.Path.{_≡_, refl, sym, ap, _∙_, subst}
-use Rattle.scope.specs.Lines.{sortBy, sortOf}
+use mathlib.Core.Path.{sym, _∙_}
+use Rattle.scope.specs.Lines.{sortBy}
 use borrow.Author.Needs.{needs}
 use Rattle.read_headers.proofs.plain_sort.Statement.{statement}
 use Rattle.read_headers.proofs.plain_sort.Tie as tie

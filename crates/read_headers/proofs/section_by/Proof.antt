@@ -1,5 +1,4 @@
 -- `read_headers::section_by` meets its contract. Assumes nothing.
-use mathlib.Core.Path.{_≡_, refl, sym, ap, _∙_, subst}
 use borrow.Author.Needs.{needs}
 use Rattle.read_headers.proofs.section_by.Statement.{statement}
 use Rattle.read_headers.proofs.section_by.Tie as tie

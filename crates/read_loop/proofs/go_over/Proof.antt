@@ -11,15 +11,6 @@ use Rattle.read_loop.proofs.AlongLaws.{Along, begin, plain-asks, plain-
 use borrow.Author.Needs.{needs}
 use Rattle.read_loop.proofs.go_over.Statement.{statement}
 use Rattle.read_loop.proofs.go_over.Tie as tie
-use Rattle.read_loop.proofs.go_over.Reads as reads
-use Rattle.read_loop.proofs.go_over.Lts as lts
-use Rattle.read_loop.proofs.mark_plain.Reads as mark-plain-reads
-use Rattle.read_loop.proofs.mark_turn.Reads as mark-turn-reads
-use Rattle.read_loop.proofs.stops.Reads as stops-reads
-use Rattle.read_runs.proofs.plain_lines.Reads as plain-lines-reads
-use Rattle.read_end.proofs.resolve_pattern_indices.Reads as resolve-pattern-indices-reads
-use Rattle.read_steps.proofs.State.new.Reads as new-reads
-use Rattle.read_steps.proofs.step.Reads as step-reads
 
 abbrev Inv-loop : tie.InvT-loop
 Inv-loop text marking words₀ numbers₀ classes₀ reasons₀ s₀ words numbers classes reasons s = Along marking text (length classes₀) (length reasons₀) words numbers classes reasons s

@@ -2,9 +2,6 @@
 use borrow.Author.Needs.{needs}
 use Rattle.read_loop.proofs.mark_plain.Statement.{statement}
 use Rattle.read_loop.proofs.mark_plain.Tie as tie
-use Rattle.read_loop.proofs.mark_plain.Reads as reads
-use Rattle.read_loop.proofs.mark_plain.Lts as lts
-use Rattle.read_marks.proofs.mark_lines.Reads as mark-lines-reads
 
 mark-lines-requires : tie.Need-mark-lines-requires
 mark-lines-requires c κs = c .before .before .before .pre (c .before .if1 .taken)

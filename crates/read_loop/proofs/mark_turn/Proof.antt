@@ -2,10 +2,6 @@
 use borrow.Author.Needs.{needs}
 use Rattle.read_loop.proofs.mark_turn.Statement.{statement}
 use Rattle.read_loop.proofs.mark_turn.Tie as tie
-use Rattle.read_loop.proofs.mark_turn.Reads as reads
-use Rattle.read_loop.proofs.mark_turn.Lts as lts
-use Rattle.read_marks.proofs.mark_class.Reads as mark-class-reads
-use Rattle.read_marks.proofs.mark_reason.Reads as mark-reason-reads
 
 mark-class-requires : tie.Need-mark-class-requires
 mark-class-requires c κs = let p = c .before .before .before .before .pre (c .before .if1 .taken) in (p .0, p .1)

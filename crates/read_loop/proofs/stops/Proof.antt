@@ -3,8 +3,6 @@ use mathlib.Core.Path.{sym, _∙_}
 use Rattle.read_steps.proofs.StepLaws.{never}
 use Rattle.read_loop.proofs.stops.Statement.{statement}
 use Rattle.read_loop.proofs.stops.Tie as tie
-use Rattle.read_loop.proofs.stops.Reads as reads
-use Rattle.read_loop.proofs.stops.Lts as lts
 
 returns : tie.Need-returns
 returns c = (λ z. never z, λ _ y. never (sym y ∙ c .if1 .taken))

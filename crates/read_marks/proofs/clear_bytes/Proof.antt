@@ -1,17 +1,14 @@
 -- `read_strict::clear_bytes` meets its contract: the bytes before `i` are 0. Assumes nothing.
 use Prim.Native.Nat.{ℕ, _≤_, _-_}
 use native.Mathlib.Omega.{arith}
-use borrow.Author.Needs.{needs}
 use borrow.Author.Fill.{fill-more}
-use mathlib.Core.Path.{_≡_, refl, ap, _∙_}
+use mathlib.Core.Path.{_≡_, refl, _∙_}
 use mathlib.Core.List.{List, _++_, append-nil}
 use denote.Ref.{now}
 use lib.ListN.{length, drop, replicate, length-set}
 use lib.Seq.{drop-length}
 use Rattle.read_marks.proofs.clear_bytes.Statement.{statement}
 use Rattle.read_marks.proofs.clear_bytes.Tie as tie
-use Rattle.read_marks.proofs.clear_bytes.Reads as reads
-use Rattle.read_marks.proofs.clear_bytes.Lts as lts
 
 abbrev Inv-loop : tie.InvT-loop
 Inv-loop bytes₀ i₀ bytes i = (i ≤ length bytes₀) × (length bytes ≡ length bytes₀) × (bytes ≡ replicate i 0 ++ drop i bytes₀)

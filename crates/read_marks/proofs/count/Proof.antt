@@ -1,15 +1,12 @@
-use Prim.Native.Nat.{ℕ, _+_, _-_, _≤_, _<_}
+use Prim.Native.Nat.{_+_, _-_}
 use native.Mathlib.Omega.{arith}
 use native.Mathlib.Numerals.{add-one}
 use borrow.Author.Needs.{needs}
 use denote.Ref.{now}
-use mathlib.Core.Path.{_≡_, refl, sym, ap, _∙_}
-use lib.ListN.{length, drop, length-drop}
+use mathlib.Core.Path.{_≡_}
+use lib.ListN.{length, drop}
 use Rattle.read_marks.proofs.count.Statement.{statement}
 use Rattle.read_marks.proofs.count.Tie as tie
-use Rattle.read_marks.proofs.count.Reads as reads
-use Rattle.read_marks.proofs.count.Lts as lts
-use Rattle.read_marks.proofs.one.Reads as one-reads
 use Rattle.scope_lines.specs.Tables.{countIn}
 use Rattle.scope_lines.proofs.Marks.{count-at, count-end, count-le}
 

@@ -1,12 +1,8 @@
-use mathlib.Core.Path.{sym, _∙_, ap}
+use mathlib.Core.Path.{_∙_, ap}
 use Rattle.read_marks.specs.Counted.{counted}
 use borrow.Author.Needs.{needs}
 use Rattle.read_marks.proofs.counts_of.Statement.{statement}
 use Rattle.read_marks.proofs.counts_of.Tie as tie
-use Rattle.read_marks.proofs.counts_of.Reads as reads
-use Rattle.read_marks.proofs.counts_of.Lts as lts
-use Rattle.leaf_letters.proofs.cut.Reads as cut-reads
-use Rattle.read_marks.proofs.count.Reads as count-reads
 use Rattle.scope_lines.specs.Tables.{countIn}
 
 cut-requires : tie.Need-cut-requires

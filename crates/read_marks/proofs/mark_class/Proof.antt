@@ -1,13 +1,10 @@
 use native.Mathlib.Omega.{arith}
 use borrow.Author.Tests.{eq-eqb, ne-eqb}
 use lib.ListN.{set}
-use mathlib.Core.Path.{_≡_, refl, sym, ap, _∙_}
+use mathlib.Core.Path.{ap}
 use borrow.Author.Needs.{needs}
 use Rattle.read_marks.proofs.mark_class.Statement.{statement}
 use Rattle.read_marks.proofs.mark_class.Tie as tie
-use Rattle.read_marks.proofs.mark_class.Reads as reads
-use Rattle.read_marks.proofs.mark_class.Lts as lts
-use Rattle.read_marks.proofs.refill.Reads as refill-reads
 
 slice-write-classes : tie.Need-slice-write-classes
 slice-write-classes c = search needs

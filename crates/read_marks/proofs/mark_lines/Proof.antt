@@ -8,8 +8,6 @@ use Rattle.read_marks.specs.Filled.{filled}
 use Rattle.read_marks.proofs.FilledLaws.{filled-more, filled-none}
 use Rattle.read_marks.proofs.mark_lines.Statement.{statement}
 use Rattle.read_marks.proofs.mark_lines.Tie as tie
-use Rattle.read_marks.proofs.mark_lines.Reads as reads
-use Rattle.read_marks.proofs.mark_lines.Lts as lts
 
 abbrev Inv-loop : tie.InvT-loop
 Inv-loop classes₀ from to class i₀ classes i = (from ≤ i) × (i ≤ to) × (length classes ≡ length classes₀) × (classes ≡ filled classes₀ from (i - from) class)

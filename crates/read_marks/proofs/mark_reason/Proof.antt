@@ -1,11 +1,8 @@
 use native.Mathlib.Omega.{arith}
 use borrow.Author.Tests.{eq-eqb, ne-eqb}
-use mathlib.Core.Path.{_≡_, refl, sym, ap, _∙_}
 use borrow.Author.Needs.{needs}
 use Rattle.read_marks.proofs.mark_reason.Statement.{statement}
 use Rattle.read_marks.proofs.mark_reason.Tie as tie
-use Rattle.read_marks.proofs.mark_reason.Reads as reads
-use Rattle.read_marks.proofs.mark_reason.Lts as lts
 
 returns : tie.Need-returns
 returns c = rw (eq-eqb (c .before .args .reason) 0 (c .if1 .taken))

@@ -1,8 +1,6 @@
 use borrow.Author.Tests.{eq-eqb, ne-eqb}
 use Rattle.read_marks.proofs.one.Statement.{statement}
 use Rattle.read_marks.proofs.one.Tie as tie
-use Rattle.read_marks.proofs.one.Reads as reads
-use Rattle.read_marks.proofs.one.Lts as lts
 
 returns : tie.Need-returns
 returns c = rw (eq-eqb (c .before .args .b) (c .before .args .k) (c .if1 .taken))

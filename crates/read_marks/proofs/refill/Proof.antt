@@ -1,14 +1,11 @@
-use Prim.Native.Nat.{ℕ, _+_, _-_, _≤_, _<_}
+use Prim.Native.Nat.{_-_, _≤_}
 use native.Mathlib.Omega.{arith}
 use borrow.Author.Needs.{needs}
 use denote.Ref.{now}
-use mathlib.Core.Path.{_≡_, refl, sym, ap, _∙_}
-use lib.ListN.{length, drop, set, getD, length-set}
+use mathlib.Core.Path.{_≡_, refl, ap, _∙_}
+use lib.ListN.{length, set, getD, length-set}
 use Rattle.read_marks.proofs.refill.Statement.{statement}
 use Rattle.read_marks.proofs.refill.Tie as tie
-use Rattle.read_marks.proofs.refill.Reads as reads
-use Rattle.read_marks.proofs.refill.Lts as lts
-use Rattle.read_marks.proofs.swap.Reads as swap-reads
 use Rattle.scope_lines.specs.Tables.{refilled, swapped}
 use Rattle.scope_lines.proofs.Marks.{refilled-none, refilled-more}
 

@@ -1,8 +1,6 @@
 use borrow.Author.Tests.{eq-eqb, ne-eqb}
 use Rattle.read_marks.proofs.swap.Statement.{statement}
 use Rattle.read_marks.proofs.swap.Tie as tie
-use Rattle.read_marks.proofs.swap.Reads as reads
-use Rattle.read_marks.proofs.swap.Lts as lts
 
 returns : tie.Need-returns
 returns c = rw (eq-eqb (c .before .args .b) 8 (c .if1 .taken))

@@ -14,12 +14,6 @@ use Rattle.read_runs.proofs.OnwardLaws.{Come, fits, begin, stored, unst
 use borrow.Author.Needs.{needs}
 use Rattle.read_runs.proofs.file_lines.Statement.{statement}
 use Rattle.read_runs.proofs.file_lines.Tie as tie
-use Rattle.read_runs.proofs.file_lines.Reads as reads
-use Rattle.read_runs.proofs.file_lines.Lts as lts
-use Rattle.read_headers.proofs.is_plain.Reads as is-plain-reads
-use Rattle.leaf_scans.proofs.line_ends.Reads as line-ends-reads
-use Rattle.read_sections.proofs.store_line.Reads as store-line-reads
-use Rattle.read_steps.proofs.State.moved.Reads as moved-reads
 
 abbrev Inv-loop : tie.InvT-loop
 Inv-loop section text words₀ numbers₀ t₀ words numbers t = Come text 4 t₀ words₀ numbers₀ t words numbers

@@ -11,11 +11,6 @@ use Rattle.read_runs.proofs.OnwardLaws.{Joined, begin-joined, joined}
 use borrow.Author.Needs.{needs}
 use Rattle.read_runs.proofs.join_lines.Statement.{statement}
 use Rattle.read_runs.proofs.join_lines.Tie as tie
-use Rattle.read_runs.proofs.join_lines.Reads as reads
-use Rattle.read_runs.proofs.join_lines.Lts as lts
-use Rattle.leaf_scans.proofs.line_end.Reads as line-end-reads
-use Rattle.read_steps.proofs.State.moved.Reads as moved-reads
-use Rattle.read_steps.proofs.is_joined.Reads as is-joined-reads
 
 abbrev Inv-loop : tie.InvT-loop
 Inv-loop text section t₀ t = Joined text t₀ t

@@ -4,10 +4,6 @@ use Rattle.read_runs.specs.Onward.{none}
 use borrow.Author.Needs.{needs}
 use Rattle.read_runs.proofs.plain_lines.Statement.{statement}
 use Rattle.read_runs.proofs.plain_lines.Tie as tie
-use Rattle.read_runs.proofs.plain_lines.Reads as reads
-use Rattle.read_runs.proofs.plain_lines.Lts as lts
-use Rattle.read_runs.proofs.file_lines.Reads as file-lines-reads
-use Rattle.read_runs.proofs.join_lines.Reads as join-lines-reads
 
 enum-told : tie.Need-enum-told
 enum-told c = search needs

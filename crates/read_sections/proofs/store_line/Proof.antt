@@ -10,20 +10,6 @@ use Rattle.table_rows.specs.declared.Kept.the-variants.{Stored}
 use borrow.Author.Needs.{needs}
 use Rattle.read_sections.proofs.store_line.Statement.{statement}
 use Rattle.read_sections.proofs.store_line.Tie as tie
-use Rattle.read_sections.proofs.store_line.Reads as reads
-use Rattle.read_sections.proofs.store_line.Lts as lts
-use Rattle.store_links.proofs.pipe_line.Reads as pipe-line-reads
-use Rattle.store_links.proofs.pump_line.Reads as pump-line-reads
-use Rattle.store_links.proofs.valve_line.Reads as valve-line-reads
-use Rattle.store_places.proofs.coordinates_line.Reads as coordinates-line-reads
-use Rattle.store_places.proofs.emitter_line.Reads as emitter-line-reads
-use Rattle.store_nodes.proofs.junction_line.Reads as junction-line-reads
-use Rattle.store_nodes.proofs.reservoir_line.Reads as reservoir-line-reads
-use Rattle.store_nodes.proofs.tank_line.Reads as tank-line-reads
-use Rattle.store_curves.proofs.curve_line.Reads as curve-line-reads
-use Rattle.store_demands.proofs.demand_line.Reads as demand-line-reads
-use Rattle.store_patterns.proofs.pattern_line.Reads as pattern-line-reads
-use Rattle.store_times.proofs.times_line.Reads as times-line-reads
 
 -- a line that stores nothing
 unchanged : {text w : List ℕ} {f : List Float} {m : Network} {s : Counts} → Holds text m s w f → After text (good m) (Stored s) w f w f

@@ -2,10 +2,6 @@ use Rattle.read_steps.proofs.WayLaws.{way-blank, way-shut}
 use borrow.Author.Needs.{needs}
 use Rattle.read_steps.proofs.blank.Statement.{statement}
 use Rattle.read_steps.proofs.blank.Tie as tie
-use Rattle.read_steps.proofs.blank.Reads as reads
-use Rattle.read_steps.proofs.blank.Lts as lts
-use Rattle.read_steps.proofs.close.Reads as close-reads
-use Rattle.read_steps.proofs.still.Reads as still-reads
 
 close-requires : tie.Need-close-requires
 close-requires c κs = (c .before .before .before .before .before .before .pre .0, c .before .before .before .before .before .before .pre .1, c .before .before .if1 .taken)

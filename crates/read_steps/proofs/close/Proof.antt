@@ -3,12 +3,6 @@ use Rattle.read_steps.proofs.WayLaws.{way-closed, way-rejected}
 use borrow.Author.Needs.{needs}
 use Rattle.read_steps.proofs.close.Statement.{statement}
 use Rattle.read_steps.proofs.close.Tie as tie
-use Rattle.read_steps.proofs.close.Reads as reads
-use Rattle.read_steps.proofs.close.Lts as lts
-use Rattle.read_steps.proofs.State.shut.Reads as shut-reads
-use Rattle.read_steps.proofs.own_class.Reads as own-class-reads
-use Rattle.table_codes.proofs.reason_number.Reads as reason-number-reads
-use Rattle.rule_store.proofs.close_group.Reads as close-group-reads
 
 close-group-requires : tie.Need-close-group-requires
 close-group-requires c κs = sound (c .before .before .before .before .before .before .pre .0 .stands)

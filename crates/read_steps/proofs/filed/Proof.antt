@@ -7,11 +7,6 @@ use Rattle.read_steps.proofs.WayLaws.{end-inside, way-taken, way-refuse
 use borrow.Author.Needs.{needs}
 use Rattle.read_steps.proofs.filed.Statement.{statement}
 use Rattle.read_steps.proofs.filed.Tie as tie
-use Rattle.read_steps.proofs.filed.Reads as reads
-use Rattle.read_steps.proofs.filed.Lts as lts
-use Rattle.read_sections.proofs.store_line.Reads as store-line-reads
-use Rattle.read_steps.proofs.State.moved.Reads as moved-reads
-use Rattle.table_codes.proofs.reason_number.Reads as reason-number-reads
 
 store-line-requires : tie.Need-store-line-requires
 store-line-requires c κs =

@@ -4,11 +4,6 @@ use Rattle.read_steps.proofs.WayLaws.{by-section}
 use borrow.Author.Needs.{needs}
 use Rattle.read_steps.proofs.is_filed.Statement.{statement}
 use Rattle.read_steps.proofs.is_filed.Tie as tie
-use Rattle.read_steps.proofs.is_filed.Reads as reads
-use Rattle.read_steps.proofs.is_filed.Lts as lts
-use Rattle.read_headers.proofs.in_rules.Reads as in-rules-reads
-use Rattle.read_headers.proofs.is_plain.Reads as is-plain-reads
-use Rattle.read_sections.proofs.passes_over.Reads as passes-over-reads
 
 in-rules-requires : tie.Need-in-rules-requires
 in-rules-requires c κs = search needs

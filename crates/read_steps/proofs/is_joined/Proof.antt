@@ -4,10 +4,6 @@ use Rattle.read_steps.proofs.WayLaws.{by-group}
 use borrow.Author.Needs.{needs}
 use Rattle.read_steps.proofs.is_joined.Statement.{statement}
 use Rattle.read_steps.proofs.is_joined.Tie as tie
-use Rattle.read_steps.proofs.is_joined.Reads as reads
-use Rattle.read_steps.proofs.is_joined.Lts as lts
-use Rattle.read_headers.proofs.in_rules.Reads as in-rules-reads
-use Rattle.read_headers.proofs.is_plain.Reads as is-plain-reads
 
 in-rules-requires : tie.Need-in-rules-requires
 in-rules-requires c κs = search needs

@@ -4,13 +4,6 @@ use Rattle.read_steps.proofs.WayLaws.{way-passed, way-joins}
 use borrow.Author.Needs.{needs}
 use Rattle.read_steps.proofs.plain.Statement.{statement}
 use Rattle.read_steps.proofs.plain.Tie as tie
-use Rattle.read_steps.proofs.plain.Reads as reads
-use Rattle.read_steps.proofs.plain.Lts as lts
-use Rattle.read_headers.proofs.in_rules.Reads as in-rules-reads
-use Rattle.read_sections.proofs.passes_over.Reads as passes-over-reads
-use Rattle.read_steps.proofs.State.joined.Reads as joined-reads
-use Rattle.read_steps.proofs.filed.Reads as filed-reads
-use Rattle.read_steps.proofs.still.Reads as still-reads
 
 in-rules-requires : tie.Need-in-rules-requires
 in-rules-requires c κs = search needs

@@ -5,11 +5,6 @@ use Rattle.read_steps.proofs.WayLaws.{way-start, way-ends, both}
 use borrow.Author.Needs.{needs}
 use Rattle.read_steps.proofs.starting.Statement.{statement}
 use Rattle.read_steps.proofs.starting.Tie as tie
-use Rattle.read_steps.proofs.starting.Reads as reads
-use Rattle.read_steps.proofs.starting.Lts as lts
-use Rattle.read_steps.proofs.close.Reads as close-reads
-use Rattle.read_steps.proofs.ends.Reads as ends-reads
-use Rattle.read_steps.proofs.plain.Reads as plain-reads
 
 ends-requires : tie.Need-ends-requires
 ends-requires c κs = search needs

@@ -7,13 +7,6 @@ use Rattle.read_steps.proofs.WayLaws.{at-once-told, plain-told, way-tol
 use borrow.Author.Needs.{needs}
 use Rattle.read_steps.proofs.step.Statement.{statement}
 use Rattle.read_steps.proofs.step.Tie as tie
-use Rattle.read_steps.proofs.step.Reads as reads
-use Rattle.read_steps.proofs.step.Lts as lts
-use Rattle.read_headers.proofs.sort_of.Reads as sort-of-reads
-use Rattle.leaf_scans.proofs.line_ends.Reads as line-ends-reads
-use Rattle.read_steps.proofs.filed.Reads as filed-reads
-use Rattle.read_steps.proofs.is_filed.Reads as is-filed-reads
-use Rattle.read_steps.proofs.take_turn.Reads as take-turn-reads
 
 line-ends-requires : tie.Need-line-ends-requires
 line-ends-requires c κs = search needs

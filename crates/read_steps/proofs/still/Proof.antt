@@ -1,9 +1,6 @@
 use borrow.Author.Needs.{needs}
 use Rattle.read_steps.proofs.still.Statement.{statement}
 use Rattle.read_steps.proofs.still.Tie as tie
-use Rattle.read_steps.proofs.still.Reads as reads
-use Rattle.read_steps.proofs.still.Lts as lts
-use Rattle.read_steps.proofs.State.moved.Reads as moved-reads
 
 moved-requires : tie.Need-moved-requires
 moved-requires c κs = search needs

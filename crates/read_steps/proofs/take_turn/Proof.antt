@@ -3,12 +3,6 @@ use Rattle.read_steps.proofs.WayLaws.{sort-is, plain-start, plain-other
 use borrow.Author.Needs.{needs}
 use Rattle.read_steps.proofs.take_turn.Statement.{statement}
 use Rattle.read_steps.proofs.take_turn.Tie as tie
-use Rattle.read_steps.proofs.take_turn.Reads as reads
-use Rattle.read_steps.proofs.take_turn.Lts as lts
-use Rattle.read_steps.proofs.blank.Reads as blank-reads
-use Rattle.read_steps.proofs.plain.Reads as plain-reads
-use Rattle.read_steps.proofs.starting.Reads as starting-reads
-use Rattle.read_steps.proofs.still.Reads as still-reads
 
 enum-told : tie.Need-enum-told
 enum-told c = search needs

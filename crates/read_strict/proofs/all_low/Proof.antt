@@ -1,5 +1,5 @@
 -- `read_strict::all_low` meets its contract. Assumes nothing.
-use Prim.Native.Nat.{ℕ, _+_, _-_, _≤_, _<_}
+use Prim.Native.Nat.{_-_}
 use native.Mathlib.Omega.{arith}
 use native.Mathlib.Numerals.{add-one}
 use borrow.Author.Needs.{needs}
@@ -11,9 +11,6 @@ use Rattle.scope.specs.Reading.{allLow}
 use Rattle.read_strict.proofs.StrictLaws.{low-step, low-end}
 use Rattle.read_strict.proofs.all_low.Statement.{statement}
 use Rattle.read_strict.proofs.all_low.Tie as tie
-use Rattle.read_strict.proofs.all_low.Reads as reads
-use Rattle.read_strict.proofs.all_low.Lts as lts
-use Rattle.read_strict.proofs.still_low.Reads as still-low-reads
 
 abbrev Inv-loop : tie.InvT-loop
 Inv-loop text low₀ i₀ low i = cond low (allLow (drop i text)) false ≡ allLow text

@@ -1,4 +1,4 @@
-use Prim.Native.Nat.{ℕ, _≤_}
+use Prim.Native.Nat.{_≤_}
 use Rattle.scope.specs.Layout.{recordWords, roomNumbers}
 use native.Mathlib.Omega.{arith}
 use denote.Ref.{now}
@@ -10,12 +10,6 @@ use Rattle.read_strict.proofs.RoomLaws.{room, back-long, strict-small, 
 use borrow.Author.Needs.{needs}
 use Rattle.read_strict.proofs.read_strict.Statement.{statement}
 use Rattle.read_strict.proofs.read_strict.Tie as tie
-use Rattle.read_strict.proofs.read_strict.Reads as reads
-use Rattle.read_strict.proofs.read_strict.Lts as lts
-use Rattle.read_strict.proofs.refusal.Reads as refusal-reads
-use Rattle.read_strict.proofs.strict_in.Reads as strict-in-reads
-use Rattle.read_strict.proofs.too_small.Reads as too-small-reads
-use Rattle.read_strict.proofs.write_counts.Reads as write-counts-reads
 
 too-small-requires : tie.Need-too-small-requires
 too-small-requires c κs = search needs

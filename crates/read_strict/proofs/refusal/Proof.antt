@@ -1,9 +1,6 @@
 use borrow.Author.Needs.{needs}
 use Rattle.read_strict.proofs.refusal.Statement.{statement}
 use Rattle.read_strict.proofs.refusal.Tie as tie
-use Rattle.read_strict.proofs.refusal.Reads as reads
-use Rattle.read_strict.proofs.refusal.Lts as lts
-use Rattle.table_codes.proofs.reason_number.Reads as reason-number-reads
 
 reason-number-requires : tie.Need-reason-number-requires
 reason-number-requires c κs = search needs

@@ -4,9 +4,6 @@ use Rattle.read_steps.proofs.StepLaws.{never}
 use borrow.Author.Needs.{needs}
 use Rattle.read_strict.proofs.run.Statement.{statement}
 use Rattle.read_strict.proofs.run.Tie as tie
-use Rattle.read_strict.proofs.run.Reads as reads
-use Rattle.read_strict.proofs.run.Lts as lts
-use Rattle.read_loop.proofs.go_over.Reads as go-over-reads
 
 slice-aggregate-go-over : tie.Need-slice-aggregate-go-over
 slice-aggregate-go-over c = search needs

@@ -1,5 +1,4 @@
 use borrow.Author.Tests.{lt-ltb, le-ltb}
-use borrow.Author.Needs.{needs}
 use Rattle.read_strict.proofs.still_low.Statement.{statement}
 use Rattle.read_strict.proofs.still_low.Tie as tie
 

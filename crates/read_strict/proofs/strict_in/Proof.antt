@@ -4,13 +4,6 @@ use Rattle.read_strict.proofs.StrictLaws.{cleared, in-long, in-high, in
 use borrow.Author.Needs.{needs}
 use Rattle.read_strict.proofs.strict_in.Statement.{statement}
 use Rattle.read_strict.proofs.strict_in.Tie as tie
-use Rattle.read_strict.proofs.strict_in.Reads as reads
-use Rattle.read_strict.proofs.strict_in.Lts as lts
-use Rattle.read_strict.proofs.all_low.Reads as all-low-reads
-use Rattle.read_strict.proofs.run.Reads as run-reads
-use Rattle.read_strict.proofs.unread.Reads as unread-reads
-use Rattle.table_rows.proofs.clear_numbers.Reads as clear-numbers-reads
-use Rattle.table_rows.proofs.clear_words.Reads as clear-words-reads
 
 clear-words-requires : tie.Need-clear-words-requires
 clear-words-requires c κs = search needs

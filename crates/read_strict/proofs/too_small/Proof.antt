@@ -3,11 +3,8 @@ use denote.Ref.{now}
 use lib.ListN.{length}
 use Rattle.scope.specs.Layout.{roomWords}
 use Rattle.scope.specs.Reading.{tooSmall}
-use borrow.Author.Needs.{needs}
 use Rattle.read_strict.proofs.too_small.Statement.{statement}
 use Rattle.read_strict.proofs.too_small.Tie as tie
-use Rattle.read_strict.proofs.too_small.Reads as reads
-use Rattle.read_strict.proofs.too_small.Lts as lts
 
 returns : tie.Need-returns
 unfolding tooSmall

@@ -1,11 +1,7 @@
 use native.Mathlib.Omega.{arith}
 use mathlib.Core.Path.{refl}
-use borrow.Author.Needs.{needs}
 use Rattle.read_strict.proofs.write_counts.Statement.{statement}
 use Rattle.read_strict.proofs.write_counts.Tie as tie
-use Rattle.read_strict.proofs.write_counts.Reads as reads
-use Rattle.read_strict.proofs.write_counts.Lts as lts
-use Rattle.table_rows.proofs.paste_words.Reads as paste-words-reads
 
 slice-aggregate-paste-words : tie.Need-slice-aggregate-paste-words
 slice-aggregate-paste-words c = refl

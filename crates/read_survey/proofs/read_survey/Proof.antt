@@ -5,12 +5,6 @@ use Rattle.read_survey.proofs.RoomLaws.{reaches, cut-long, words-long, 
 use borrow.Author.Needs.{needs}
 use Rattle.read_survey.proofs.read_survey.Statement.{statement}
 use Rattle.read_survey.proofs.read_survey.Tie as tie
-use Rattle.read_survey.proofs.read_survey.Reads as reads
-use Rattle.read_survey.proofs.read_survey.Lts as lts
-use Rattle.read_sweep.proofs.no_survey.Reads as no-survey-reads
-use Rattle.read_sweep.proofs.survey_in.Reads as survey-in-reads
-use Rattle.read_survey.proofs.survey_small.Reads as survey-small-reads
-use Rattle.read_strict.proofs.write_counts.Reads as write-counts-reads
 
 survey-small-requires : tie.Need-survey-small-requires
 survey-small-requires c κs = search needs

@@ -7,9 +7,6 @@ use Rattle.scope.specs.Sections.{roomLines}
 use borrow.Author.Needs.{needs}
 use Rattle.read_survey.proofs.survey_small.Statement.{statement}
 use Rattle.read_survey.proofs.survey_small.Tie as tie
-use Rattle.read_survey.proofs.survey_small.Reads as reads
-use Rattle.read_survey.proofs.survey_small.Lts as lts
-use Rattle.read_strict.proofs.too_small.Reads as too-small-reads
 
 too-small-requires : tie.Need-too-small-requires
 too-small-requires c κs = search needs

@@ -1,9 +1,6 @@
 use borrow.Author.Needs.{needs}
 use Rattle.read_sweep.proofs.no_survey.Statement.{statement}
 use Rattle.read_sweep.proofs.no_survey.Tie as tie
-use Rattle.read_sweep.proofs.no_survey.Reads as reads
-use Rattle.read_sweep.proofs.no_survey.Lts as lts
-use Rattle.table_codes.proofs.reason_number.Reads as reason-number-reads
 
 reason-number-requires : tie.Need-reason-number-requires
 reason-number-requires c κs = search needs

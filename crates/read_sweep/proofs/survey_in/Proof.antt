@@ -7,14 +7,6 @@ use Rattle.read_sweep.proofs.SurveyLaws.{in-long, in-high, in-all}
 use borrow.Author.Needs.{needs}
 use Rattle.read_sweep.proofs.survey_in.Statement.{statement}
 use Rattle.read_sweep.proofs.survey_in.Tie as tie
-use Rattle.read_sweep.proofs.survey_in.Reads as reads
-use Rattle.read_sweep.proofs.survey_in.Lts as lts
-use Rattle.read_strict.proofs.all_low.Reads as all-low-reads
-use Rattle.read_marks.proofs.clear_bytes.Reads as clear-bytes-reads
-use Rattle.read_sweep.proofs.sweep.Reads as sweep-reads
-use Rattle.read_sweep.proofs.unsurveyed.Reads as unsurveyed-reads
-use Rattle.table_rows.proofs.clear_numbers.Reads as clear-numbers-reads
-use Rattle.table_rows.proofs.clear_words.Reads as clear-words-reads
 
 clear-words-requires : tie.Need-clear-words-requires
 clear-words-requires c κs = search needs

@@ -3,10 +3,6 @@ use mathlib.Core.Path.{refl, _∙_}
 use borrow.Author.Needs.{needs}
 use Rattle.read_sweep.proofs.sweep.Statement.{statement}
 use Rattle.read_sweep.proofs.sweep.Tie as tie
-use Rattle.read_sweep.proofs.sweep.Reads as reads
-use Rattle.read_sweep.proofs.sweep.Lts as lts
-use Rattle.read_loop.proofs.go_over.Reads as go-over-reads
-use Rattle.read_marks.proofs.counts_of.Reads as counts-of-reads
 
 go-over-requires : tie.Need-go-over-requires
 go-over-requires c κs = search needs

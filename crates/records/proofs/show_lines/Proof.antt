@@ -2,9 +2,6 @@ use Prim.Native.Nat.{_-_, _≤_}
 use borrow.Author.Needs.{needs}
 use Rattle.records.proofs.show_lines.Statement.{statement}
 use Rattle.records.proofs.show_lines.Tie as tie
-use Rattle.records.proofs.show_lines.Reads as reads
-use Rattle.records.proofs.show_lines.Lts as lts
-use Rattle.records.proofs.show_line.Reads as show-line-reads
 
 abbrev Inv-loop : tie.InvT-loop
 Inv-loop classes reasons lines i₀ i = i ≤ lines

@@ -1,5 +1,4 @@
 -- `rule_clauses::attribute` meets its contract. Assumes nothing.
-use mathlib.Core.Path.{_≡_, refl, sym, ap, _∙_, subst}
 use borrow.Author.Needs.{needs}
 use Rattle.rule_clauses.proofs.attribute.Statement.{statement}
 use Rattle.rule_clauses.proofs.attribute.Tie as tie

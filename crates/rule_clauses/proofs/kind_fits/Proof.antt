@@ -1,5 +1,5 @@
 -- `rule_clauses::kind_fits` meets its contract. Assumes nothing.
-use mathlib.Core.Path.{_≡_, refl, sym, ap, _∙_, subst}
+use mathlib.Core.Path.{sym, ap, _∙_}
 use Rattle.scope.specs.Rules.{ofKind, kindFits}
 use borrow.Author.Needs.{needs}
 use Rattle.rule_clauses.proofs.kind_fits.Statement.{statement}

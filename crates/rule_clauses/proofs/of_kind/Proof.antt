@@ -1,6 +1,4 @@
 -- `rule_clauses::of_kind` meets its contract. Assumes nothing.
-use mathlib.Core.Path.{_≡_, refl, sym, ap, _∙_, subst}
-use borrow.Author.Needs.{needs}
 use Rattle.rule_clauses.proofs.of_kind.Statement.{statement}
 use Rattle.rule_clauses.proofs.of_kind.Tie as tie
 

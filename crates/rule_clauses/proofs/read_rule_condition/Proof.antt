@@ -1,5 +1,5 @@
 -- `rule_clauses::read_rule_condition` meets its contract. Assumes nothing.
-use mathlib.Core.Path.{_≡_, refl, sym, ap, _∙_, subst}
+use mathlib.Core.Path.{sym, ap, _∙_, subst}
 use denote.Ref.{now}
 use Rattle.scope.specs.Rules.{conditionOf}
 use Rattle.rule_clauses.specs.Clauses.{targetRead, TargetFits, conditionOn}

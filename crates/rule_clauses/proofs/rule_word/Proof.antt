@@ -1,5 +1,5 @@
 -- `rule_clauses::rule_word` meets its contract. Assumes nothing.
-use mathlib.Core.Path.{_≡_, refl, sym, ap, _∙_, subst}
+use mathlib.Core.Path.{sym, _∙_}
 use Rattle.rule_clauses.specs.Clauses.{ruleWord}
 use borrow.Author.Needs.{needs}
 use Rattle.rule_clauses.proofs.rule_word.Statement.{statement}

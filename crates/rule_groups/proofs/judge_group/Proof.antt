@@ -1,5 +1,5 @@
 -- `rule_groups::judge_group` meets its contract. Assumes nothing.
-use mathlib.Core.Path.{_≡_, refl, sym, ap, _∙_, subst}
+use mathlib.Core.Path.{sym, ap, _∙_}
 use native.Mathlib.Omega.{arith}
 use Rattle.scope.specs.Records.{ruleIds, lookup, withClauses}
 use Rattle.rule_groups.proofs.JudgeLaws.{no-condition, no-action, no-id, used, rules-full, clauses-full, rule-fits}

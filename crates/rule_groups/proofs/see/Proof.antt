@@ -1,7 +1,6 @@
 -- `rule_groups::see` meets its contract. Assumes nothing.
-use mathlib.Core.Path.{_≡_, refl, sym, ap, _∙_, subst}
-use mathlib.Core.List.{List, [], _∷_}
-use Rattle.leaf_fields.specs.Fields.{Fits, fieldsAt, nameIn, part}
+use mathlib.Core.Path.{subst}
+use Rattle.leaf_fields.specs.Fields.{nameIn}
 use Rattle.rule_lines.specs.Lines.{actionIn, saidId, saidRank, saidCondition, saidAction, withSaid, LineFits}
 use Rattle.rule_lines.specs.declared.LineRead.{LineRead}
 use Rattle.rule_clauses.specs.Clauses.{conditionIn}

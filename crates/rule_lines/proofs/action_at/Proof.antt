@@ -1,10 +1,10 @@
 -- `rule_lines::action_at` meets its contract. Assumes nothing.
-use mathlib.Core.Path.{_≡_, refl, sym, ap, _∙_, subst}
+use mathlib.Core.Path.{_≡_, sym, ap, _∙_}
 use denote.Ref.{now}
 use native.Mathlib.Omega.{arith}
-use mathlib.Core.List.{List, [], _∷_}
+use mathlib.Core.List.{List}
 use Rattle.scope.specs.Layout.{recordWords}
-use Rattle.leaf_fields.specs.Fields.{Fits, fieldsAt, nameIn, part}
+use Rattle.leaf_fields.specs.Fields.{fieldsAt, part}
 use Prim.Native.Nat.{ℕ, _<_}
 use lib.ListN.{length, getD}
 use Rattle.scope.specs.Records.{Network, linkIds, lookup, noLink}

@@ -1,5 +1,4 @@
 -- `rule_lines::action_value` meets its contract. Assumes nothing.
-use mathlib.Core.Path.{_≡_, refl, sym, ap, _∙_, subst}
 use borrow.Author.Needs.{needs}
 use Rattle.rule_lines.proofs.action_value.Statement.{statement}
 use Rattle.rule_lines.proofs.action_value.Tie as tie

@@ -1,5 +1,4 @@
 -- `rule_lines::and_line` meets its contract. Assumes nothing.
-use mathlib.Core.Path.{_≡_, refl, sym, ap, _∙_, subst}
 use denote.Ref.{now}
 use borrow.Author.Needs.{needs}
 use Rattle.rule_lines.proofs.and_line.Statement.{statement}

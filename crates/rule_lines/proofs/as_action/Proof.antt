@@ -1,5 +1,5 @@
 -- `rule_lines::as_action` meets its contract. Assumes nothing.
-use mathlib.Core.Path.{_≡_, refl, sym, ap, _∙_, subst}
+use mathlib.Core.Path.{subst}
 use Rattle.rule_lines.specs.Lines.{ActionFits}
 use Rattle.rule_lines.specs.declared.ActionRead.{ActionRead}
 use borrow.Author.Needs.{needs}

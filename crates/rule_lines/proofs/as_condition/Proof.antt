@@ -1,5 +1,5 @@
 -- `rule_lines::as_condition` meets its contract. Assumes nothing.
-use mathlib.Core.Path.{_≡_, refl, sym, ap, _∙_, subst}
+use mathlib.Core.Path.{subst}
 use Rattle.rule_clauses.specs.Clauses.{ConditionFits}
 use Rattle.rule_clauses.specs.declared.ConditionRead.{ConditionRead}
 use borrow.Author.Needs.{needs}

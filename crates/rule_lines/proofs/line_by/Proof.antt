@@ -1,5 +1,4 @@
 -- `rule_lines::line_by` meets its contract. Assumes nothing.
-use mathlib.Core.Path.{_≡_, refl, sym, ap, _∙_, subst}
 use denote.Ref.{now}
 use borrow.Author.Needs.{needs}
 use Rattle.rule_lines.proofs.line_by.Statement.{statement}

@@ -1,8 +1,8 @@
 -- `rule_lines::read_line` meets its contract. Assumes nothing.
-use mathlib.Core.Path.{_≡_, refl, sym, ap, _∙_, subst}
+use mathlib.Core.Path.{_≡_}
 use denote.Ref.{now}
-use mathlib.Core.List.{List, [], _∷_}
-use Rattle.leaf_fields.specs.Fields.{Fits, fieldsAt, nameIn, part}
+use mathlib.Core.List.{_∷_}
+use Rattle.leaf_fields.specs.Fields.{Fits, fieldsAt, nameIn}
 use Rattle.rule_lines.specs.Lines.{saidOf}
 use borrow.Author.Needs.{needs}
 use Rattle.rule_lines.proofs.read_line.Statement.{statement}

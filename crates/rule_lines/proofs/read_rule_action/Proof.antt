@@ -1,8 +1,7 @@
 -- `rule_lines::read_rule_action` meets its contract. Assumes nothing.
-use mathlib.Core.Path.{_≡_, refl, sym, ap, _∙_, subst}
+use mathlib.Core.Path.{sym, ap, _∙_, subst}
 use denote.Ref.{now}
-use mathlib.Core.List.{List, [], _∷_}
-use Rattle.leaf_fields.specs.Fields.{Fits, fieldsAt, nameIn, part}
+use Rattle.leaf_fields.specs.Fields.{fieldsAt}
 use Rattle.rule_clauses.specs.Clauses.{headRead, HeadFits}
 use Rattle.rule_clauses.specs.declared.HeadRead.{HeadRead}
 use Rattle.rule_clauses.proofs.ClauseLaws.{action-parts}

@@ -1,5 +1,5 @@
 -- `rule_store::put_action` meets its contract. Assumes nothing.
-use mathlib.Core.Path.{_≡_, refl, sym, ap, _∙_, subst}
+use mathlib.Core.Path.{_∙_}
 use borrow.Author.Needs.{needs}
 use Rattle.rule_store.proofs.put_action.Statement.{statement}
 use Rattle.rule_store.proofs.put_action.Tie as tie

@@ -1,5 +1,5 @@
 -- `rule_store::put_condition` meets its contract. Assumes nothing.
-use mathlib.Core.Path.{_≡_, refl, sym, ap, _∙_, subst}
+use mathlib.Core.Path.{_∙_}
 use borrow.Author.Needs.{needs}
 use Rattle.rule_store.proofs.put_condition.Statement.{statement}
 use Rattle.rule_store.proofs.put_condition.Tie as tie

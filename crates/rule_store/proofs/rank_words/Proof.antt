@@ -1,6 +1,4 @@
 -- `rule_store::rank_words` meets its contract. Assumes nothing.
-use mathlib.Core.Path.{_≡_, refl, sym, ap, _∙_, subst}
-use borrow.Author.Needs.{needs}
 use Rattle.rule_store.proofs.rank_words.Statement.{statement}
 use Rattle.rule_store.proofs.rank_words.Tie as tie
 

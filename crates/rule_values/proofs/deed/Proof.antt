@@ -1,5 +1,5 @@
 -- `rule_values::deed` meets its contract. Assumes nothing.
-use mathlib.Core.Path.{_≡_, refl, sym, ap, _∙_, subst}
+use mathlib.Core.Path.{sym, _∙_}
 use Rattle.scope.specs.Rules.{deedOf}
 use borrow.Author.Needs.{needs}
 use Rattle.rule_values.proofs.deed.Statement.{statement}

@@ -1,5 +1,5 @@
 -- `rule_values::either` meets its contract. Assumes nothing.
-use mathlib.Core.Path.{_≡_, refl, sym, ap, _∙_, subst}
+use mathlib.Core.Path.{sym, _∙_}
 use borrow.Author.Needs.{needs}
 use Rattle.rule_values.proofs.either.Statement.{statement}
 use Rattle.rule_values.proofs.either.Tie as tie

@@ -1,5 +1,4 @@
 -- `rule_values::seconds_value` meets its contract. Assumes nothing.
-use mathlib.Core.Path.{_≡_, refl, sym, ap, _∙_, subst}
 use lib.Ieee.{inFloat}
 use lib.Dec.{le→leb}
 use borrow.Author.Tests.{lt-leb, le-leb}

@@ -1,8 +1,6 @@
 use borrow.Author.Needs.{needs}
 use Rattle.sheet_actions.proofs.is_at.Statement.{statement}
 use Rattle.sheet_actions.proofs.is_at.Tie as tie
-use Rattle.sheet_actions.proofs.is_at.Reads as reads
-use Rattle.sheet_actions.proofs.is_at.Lts as lts
 
 enum-told : tie.Need-enum-told
 enum-told c = search needs

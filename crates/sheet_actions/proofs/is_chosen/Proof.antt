@@ -2,10 +2,6 @@ use mathlib.Core.Path.{sym, _∙_}
 use borrow.Author.Needs.{needs}
 use Rattle.sheet_actions.proofs.is_chosen.Statement.{statement}
 use Rattle.sheet_actions.proofs.is_chosen.Tie as tie
-use Rattle.sheet_actions.proofs.is_chosen.Reads as reads
-use Rattle.sheet_actions.proofs.is_chosen.Lts as lts
-use Rattle.sheet_actions.proofs.is_at.Reads as is-at-reads
-use Rattle.sheet_actions.proofs.is_branch.Reads as is-branch-reads
 
 is-branch-requires : tie.Need-is-branch-requires
 is-branch-requires c κs = search needs

@@ -2,10 +2,6 @@ use mathlib.Core.Path.{sym, _∙_}
 use borrow.Author.Needs.{needs}
 use Rattle.sheet_actions.proofs.with_clause.Statement.{statement}
 use Rattle.sheet_actions.proofs.with_clause.Tie as tie
-use Rattle.sheet_actions.proofs.with_clause.Reads as reads
-use Rattle.sheet_actions.proofs.with_clause.Lts as lts
-use Rattle.sheet_actions.proofs.is_chosen.Reads as is-chosen-reads
-use Rattle.sheet_actions.proofs.with_move.Reads as with-move-reads
 
 enum-known-clause : tie.Need-enum-known-clause
 enum-known-clause c = search needs

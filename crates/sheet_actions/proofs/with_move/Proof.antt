@@ -1,9 +1,6 @@
 use borrow.Author.Needs.{needs}
 use Rattle.sheet_actions.proofs.with_move.Statement.{statement}
 use Rattle.sheet_actions.proofs.with_move.Tie as tie
-use Rattle.sheet_actions.proofs.with_move.Reads as reads
-use Rattle.sheet_actions.proofs.with_move.Lts as lts
-use Rattle.sheet_actions.proofs.with_status.Reads as with-status-reads
 
 enum-known-value : tie.Need-enum-known-value
 enum-known-value c = search needs

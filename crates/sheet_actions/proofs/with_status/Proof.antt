@@ -1,8 +1,6 @@
 use borrow.Author.Needs.{needs}
 use Rattle.sheet_actions.proofs.with_status.Statement.{statement}
 use Rattle.sheet_actions.proofs.with_status.Tie as tie
-use Rattle.sheet_actions.proofs.with_status.Reads as reads
-use Rattle.sheet_actions.proofs.with_status.Lts as lts
 
 enum-told : tie.Need-enum-told
 enum-told c = search needs

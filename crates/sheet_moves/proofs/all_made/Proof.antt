@@ -9,10 +9,6 @@ use Rattle.sheet_moves.specs.Moves.{Tallied, madeBelow}
 use Rattle.sheet_moves.proofs.MovesLaws.{made-none, made-next, made-all}
 use Rattle.sheet_moves.proofs.all_made.Statement.{statement}
 use Rattle.sheet_moves.proofs.all_made.Tie as tie
-use Rattle.sheet_moves.proofs.all_made.Reads as reads
-use Rattle.sheet_moves.proofs.all_made.Lts as lts
-use Rattle.sheet_moves.proofs.link_count.Reads as link-count-reads
-use Rattle.sheet_moves.proofs.link_made.Reads as link-made-reads
 
 abbrev Inv-loop : tie.InvT-loop
 Inv-loop words numbers all n₀ i₀ n i =

@@ -1,8 +1,6 @@
 use borrow.Author.Tests.{lt-ltb, le-ltb}
 use Rattle.sheet_moves.proofs.larger_of.Statement.{statement}
 use Rattle.sheet_moves.proofs.larger_of.Tie as tie
-use Rattle.sheet_moves.proofs.larger_of.Reads as reads
-use Rattle.sheet_moves.proofs.larger_of.Lts as lts
 
 returns : tie.Need-returns
 returns c = rw (lt-ltb (c .before .args .a) (c .before .args .b) (c .if1 .taken))

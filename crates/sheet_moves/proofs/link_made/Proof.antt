@@ -2,10 +2,6 @@ use mathlib.Core.Path.{_∙_}
 use borrow.Author.Needs.{needs}
 use Rattle.sheet_moves.proofs.link_made.Statement.{statement}
 use Rattle.sheet_moves.proofs.link_made.Tie as tie
-use Rattle.sheet_moves.proofs.link_made.Reads as reads
-use Rattle.sheet_moves.proofs.link_made.Lts as lts
-use Rattle.sheet_moves.proofs.link_moves.Reads as link-moves-reads
-use Rattle.sheet_moves.proofs.made_by.Reads as made-by-reads
 
 link-moves-requires : tie.Need-link-moves-requires
 link-moves-requires c κs = search needs

@@ -3,9 +3,6 @@ use Rattle.sheet_moves.proofs.MovesLaws.{made-few, made-is}
 use borrow.Author.Needs.{needs}
 use Rattle.sheet_moves.proofs.made_by.Statement.{statement}
 use Rattle.sheet_moves.proofs.made_by.Tie as tie
-use Rattle.sheet_moves.proofs.made_by.Reads as reads
-use Rattle.sheet_moves.proofs.made_by.Lts as lts
-use Rattle.sheet_moves.proofs.larger_of.Reads as larger-of-reads
 
 add-closings : tie.Need-add-closings
 add-closings c = search needs

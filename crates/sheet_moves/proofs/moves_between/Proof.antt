@@ -1,8 +1,6 @@
 use Prim.Native.Nat.{_-_, _+_, _≤_}
 use native.Mathlib.Omega.{arith}
-use mathlib.Core.Path.{_≡_, _∙_}
-use mathlib.Core.Bool.{Bool}
-use denote.Ref.{now}
+use mathlib.Core.Path.{_≡_}
 use lib.ListN.{length}
 use borrow.Author.Needs.{needs}
 use Rattle.scope.specs.Records.{Network}
@@ -11,10 +9,6 @@ use Rattle.sheet_actions.specs.Steps.{Few}
 use Rattle.sheet_moves.proofs.MovesLaws.{sofar, none-yet, then-one-more, all-of-them, few-none, few-more, few-within}
 use Rattle.sheet_moves.proofs.moves_between.Statement.{statement}
 use Rattle.sheet_moves.proofs.moves_between.Tie as tie
-use Rattle.sheet_moves.proofs.moves_between.Reads as reads
-use Rattle.sheet_moves.proofs.moves_between.Lts as lts
-use Rattle.sheet_actions.proofs.with_clause.Reads as with-clause-reads
-use Rattle.stored_records.proofs.clause_at.Reads as clause-at-reads
 
 abbrev Inv-loop : tie.InvT-loop
 Inv-loop words numbers first end which otherwise n₀ k₀ n k =

@@ -6,12 +6,6 @@ use borrow.Author.Needs.{needs}
 use Rattle.sheet_moves.proofs.MovesLaws.{rule-is}
 use Rattle.sheet_moves.proofs.rule_moves.Statement.{statement}
 use Rattle.sheet_moves.proofs.rule_moves.Tie as tie
-use Rattle.sheet_moves.proofs.rule_moves.Reads as reads
-use Rattle.sheet_moves.proofs.rule_moves.Lts as lts
-use Rattle.sheet_moves.proofs.clause_count.Reads as clause-count-reads
-use Rattle.stored_parts.proofs.end_of.Reads as end-of-reads
-use Rattle.sheet_moves.proofs.moves_between.Reads as moves-between-reads
-use Rattle.stored_records.proofs.rule_at.Reads as rule-at-reads
 
 rule-at-requires : tie.Need-rule-at-requires
 rule-at-requires c κs = search needs

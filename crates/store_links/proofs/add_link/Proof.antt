@@ -10,12 +10,6 @@ use Rattle.store_links.proofs.StoreLaws.{link-used, links-full, link-st
 use borrow.Author.Needs.{needs}
 use Rattle.store_links.proofs.add_link.Statement.{statement}
 use Rattle.store_links.proofs.add_link.Tie as tie
-use Rattle.store_links.proofs.add_link.Reads as reads
-use Rattle.store_links.proofs.add_link.Lts as lts
-use Rattle.leaf_fields.proofs.letters_of.Reads as letters-of-reads
-use Rattle.store_links.proofs.put_link.Reads as put-link-reads
-use Rattle.table_rows.proofs.find.Reads as find-reads
-use Rattle.table_rows.proofs.id_words.Reads as id-words-reads
 
 id-words-requires : tie.Need-id-words-requires
 id-words-requires c κs = search needs

@@ -7,9 +7,6 @@ use Rattle.store_links.proofs.StoreLaws.{no-start, no-end, both-ends}
 use borrow.Author.Needs.{needs}
 use Rattle.store_links.proofs.find_ends.Statement.{statement}
 use Rattle.store_links.proofs.find_ends.Tie as tie
-use Rattle.store_links.proofs.find_ends.Reads as reads
-use Rattle.store_links.proofs.find_ends.Lts as lts
-use Rattle.table_rows.proofs.node_named.Reads as node-named-reads
 
 node-named-requires : tie.Need-node-named-requires
 node-named-requires c κs = search needs

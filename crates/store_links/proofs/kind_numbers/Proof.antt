@@ -2,8 +2,6 @@ use lib.Ieee as Ieee
 use borrow.Author.Needs.{needs}
 use Rattle.store_links.proofs.kind_numbers.Statement.{statement}
 use Rattle.store_links.proofs.kind_numbers.Tie as tie
-use Rattle.store_links.proofs.kind_numbers.Reads as reads
-use Rattle.store_links.proofs.kind_numbers.Lts as lts
 
 enum-known-kind : tie.Need-enum-known-kind
 enum-known-kind c = search needs

@@ -9,11 +9,6 @@ use Rattle.scope.specs.Tables.{typeNo}
 use borrow.Author.Needs.{needs}
 use Rattle.store_links.proofs.kind_words.Statement.{statement}
 use Rattle.store_links.proofs.kind_words.Tie as tie
-use Rattle.store_links.proofs.kind_words.Reads as reads
-use Rattle.store_links.proofs.kind_words.Lts as lts
-use Rattle.table_rows.proofs.name_words.Reads as name-words-reads
-use Rattle.table_codes.proofs.pipe_status_number.Reads as pipe-status-number-reads
-use Rattle.table_codes.proofs.valve_type_number.Reads as valve-type-number-reads
 
 enum-known-kind : tie.Need-enum-known-kind
 enum-known-kind c = search needs

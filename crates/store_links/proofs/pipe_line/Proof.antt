@@ -12,10 +12,6 @@ use Rattle.store_links.proofs.LineLaws.{line-text}
 use borrow.Author.Needs.{needs}
 use Rattle.store_links.proofs.pipe_line.Statement.{statement}
 use Rattle.store_links.proofs.pipe_line.Tie as tie
-use Rattle.store_links.proofs.pipe_line.Reads as reads
-use Rattle.store_links.proofs.pipe_line.Lts as lts
-use Rattle.parse_pipes.proofs.read_pipe.Reads as read-pipe-reads
-use Rattle.store_links.proofs.store_link.Reads as store-link-reads
 
 is-read : (c : tie.After-known-told) → (pipeOf (fieldsAt (take (c .before .before .before .before .before .before .before .before .args .end) (now (c .before .before .before .before .before .before .before .before .args .text))) (c .before .before .before .before .before .before .before .before .args .at)) ≡ good (lineIn (take (c .before .before .before .before .before .before .before .before .args .end) (now (c .before .before .before .before .before .before .before .before .args .text))) (c .before .read .given .0 .0))) × NamesFit (take (c .before .before .before .before .before .before .before .before .args .end) (now (c .before .before .before .before .before .before .before .before .args .text))) ((c .before .read .given .0 .0) .names) × KindFits (take (c .before .before .before .before .before .before .before .before .args .end) (now (c .before .before .before .before .before .before .before .before .args .text))) ((c .before .read .given .0 .0) .kind)
 is-read c = told-link (take (c .before .before .before .before .before .before .before .before .args .end) (now (c .before .before .before .before .before .before .before .before .args .text))) (pipeOf (fieldsAt (take (c .before .before .before .before .before .before .before .before .args .end) (now (c .before .before .before .before .before .before .before .before .args .text))) (c .before .before .before .before .before .before .before .before .args .at))) (c .before .read .given .1) (c .before .before .before .read-pipe .ensures)

@@ -17,12 +17,6 @@ use Rattle.store_links.proofs.LineLaws.{names-text, pump-text, few-pump
 use borrow.Author.Needs.{needs}
 use Rattle.store_links.proofs.pump_line.Statement.{statement}
 use Rattle.store_links.proofs.pump_line.Tie as tie
-use Rattle.store_links.proofs.pump_line.Reads as reads
-use Rattle.store_links.proofs.pump_line.Lts as lts
-use Rattle.store_links.proofs.add_link.Reads as add-link-reads
-use Rattle.store_links.proofs.find_ends.Reads as find-ends-reads
-use Rattle.parse_pipes.proofs.read_names.Reads as read-names-reads
-use Rattle.parse_pumps.proofs.read_pairs.Reads as read-pairs-reads
 
 in-line : (c : tie.After-known-told) → ((fieldsAt (take (c .before .before .before .before .before .before .before .before .args .end) (now (c .before .before .before .before .before .before .before .before .args .text))) (c .before .before .before .before .before .before .before .before .args .at)) ≡ nameIn (take (c .before .before .before .before .before .before .before .before .args .end) (now (c .before .before .before .before .before .before .before .before .args .text))) ((c .before .three .given .0 .0) .id) ∷ nameIn (take (c .before .before .before .before .before .before .before .before .args .end) (now (c .before .before .before .before .before .before .before .before .args .text))) ((c .before .three .given .0 .0) .start) ∷ nameIn (take (c .before .before .before .before .before .before .before .before .args .end) (now (c .before .before .before .before .before .before .before .before .args .text))) ((c .before .three .given .0 .0) .end) ∷ (fieldsAt (take (c .before .before .before .before .before .before .before .before .args .end) (now (c .before .before .before .before .before .before .before .before .args .text))) ((c .before .three .given .0 .0) .end .end))) × NamesFit (take (c .before .before .before .before .before .before .before .before .args .end) (now (c .before .before .before .before .before .before .before .before .args .text))) (c .before .three .given .0 .0)
 in-line c = told-names (take (c .before .before .before .before .before .before .before .before .args .end) (now (c .before .before .before .before .before .before .before .before .args .text))) (fieldsAt (take (c .before .before .before .before .before .before .before .before .args .end) (now (c .before .before .before .before .before .before .before .before .args .text))) (c .before .before .before .before .before .before .before .before .args .at)) (c .before .three .given .1) (c .before .before .before .read-names .ensures)

@@ -13,14 +13,6 @@ use Rattle.store_links.proofs.StoreLaws.{link-row}
 use borrow.Author.Needs.{needs}
 use Rattle.store_links.proofs.put_link.Statement.{statement}
 use Rattle.store_links.proofs.put_link.Tie as tie
-use Rattle.store_links.proofs.put_link.Reads as reads
-use Rattle.store_links.proofs.put_link.Lts as lts
-use Rattle.store_links.proofs.kind_numbers.Reads as kind-numbers-reads
-use Rattle.store_links.proofs.kind_words.Reads as kind-words-reads
-use Rattle.table_rows.proofs.mark.Reads as mark-reads
-use Rattle.table_rows.proofs.paste_numbers.Reads as paste-numbers-reads
-use Rattle.table_rows.proofs.paste_words.Reads as paste-words-reads
-use Rattle.table_rows.proofs.slot_of.Reads as slot-of-reads
 
 kind-words-requires : tie.Need-kind-words-requires
 kind-words-requires c κs = search needs

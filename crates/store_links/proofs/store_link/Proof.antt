@@ -8,10 +8,6 @@ use Rattle.store_links.proofs.StoreLaws.{told-ends, store-no-ends, stor
 use borrow.Author.Needs.{needs}
 use Rattle.store_links.proofs.store_link.Statement.{statement}
 use Rattle.store_links.proofs.store_link.Tie as tie
-use Rattle.store_links.proofs.store_link.Reads as reads
-use Rattle.store_links.proofs.store_link.Lts as lts
-use Rattle.store_links.proofs.add_link.Reads as add-link-reads
-use Rattle.store_links.proofs.find_ends.Reads as find-ends-reads
 
 find-ends-requires : tie.Need-find-ends-requires
 find-ends-requires c κs = (c .before .before .before .before .before .pre .0 .m, c .before .before .before .before .before .pre .0 .holds .words, count-nodes (c .before .before .before .before .before .pre .0 .holds))

@@ -8,10 +8,6 @@ use Rattle.store_nodes.proofs.LineLaws.{junction-told, junction-good, j
 use borrow.Author.Needs.{needs}
 use Rattle.store_nodes.proofs.junction_line.Statement.{statement}
 use Rattle.store_nodes.proofs.junction_line.Tie as tie
-use Rattle.store_nodes.proofs.junction_line.Reads as reads
-use Rattle.store_nodes.proofs.junction_line.Lts as lts
-use Rattle.parse_nodes.proofs.read_junction.Reads as read-junction-reads
-use Rattle.store_nodes.proofs.store_junction.Reads as store-junction-reads
 
 slice-aggregate-read-junction : tie.Need-slice-aggregate-read-junction
 slice-aggregate-read-junction c = sym (length-take-le (c .before .before .before .before .args .end) (now (c .before .before .before .before .args .text)) (c .before .before .before .before .pre .1))

@@ -10,11 +10,6 @@ use Rattle.store_nodes.proofs.StoreLaws.{own-words}
 use borrow.Author.Needs.{needs}
 use Rattle.store_nodes.proofs.put_demand.Statement.{statement}
 use Rattle.store_nodes.proofs.put_demand.Tie as tie
-use Rattle.store_nodes.proofs.put_demand.Reads as reads
-use Rattle.store_nodes.proofs.put_demand.Lts as lts
-use Rattle.table_rows.proofs.mark.Reads as mark-reads
-use Rattle.table_rows.proofs.name_words.Reads as name-words-reads
-use Rattle.table_rows.proofs.paste_words.Reads as paste-words-reads
 
 name-words-requires : tie.Need-name-words-requires
 name-words-requires c κs = search needs

@@ -16,12 +16,6 @@ use Rattle.store_nodes.specs.Storing.{newWords}
 use borrow.Author.Needs.{needs}
 use Rattle.store_nodes.proofs.put_junction.Statement.{statement}
 use Rattle.store_nodes.proofs.put_junction.Tie as tie
-use Rattle.store_nodes.proofs.put_junction.Reads as reads
-use Rattle.store_nodes.proofs.put_junction.Lts as lts
-use Rattle.store_nodes.proofs.put_demand.Reads as put-demand-reads
-use Rattle.store_nodes.proofs.put_node.Reads as put-node-reads
-use Rattle.table_rows.proofs.flag_of.Reads as flag-of-reads
-use Rattle.table_rows.proofs.paste_numbers.Reads as paste-numbers-reads
 
 flag-of-requires : tie.Need-flag-of-requires
 flag-of-requires c κs = search needs

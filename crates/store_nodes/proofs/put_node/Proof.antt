@@ -12,12 +12,6 @@ use Rattle.store_nodes.proofs.StoreLaws.{new-words}
 use borrow.Author.Needs.{needs}
 use Rattle.store_nodes.proofs.put_node.Statement.{statement}
 use Rattle.store_nodes.proofs.put_node.Tie as tie
-use Rattle.store_nodes.proofs.put_node.Reads as reads
-use Rattle.store_nodes.proofs.put_node.Lts as lts
-use Rattle.table_rows.proofs.mark.Reads as mark-reads
-use Rattle.table_rows.proofs.name_words.Reads as name-words-reads
-use Rattle.table_rows.proofs.paste_words.Reads as paste-words-reads
-use Rattle.table_rows.proofs.slot_of.Reads as slot-of-reads
 
 name-words-requires : tie.Need-name-words-requires
 name-words-requires c κs = search needs

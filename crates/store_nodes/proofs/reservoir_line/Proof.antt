@@ -8,10 +8,6 @@ use Rattle.store_nodes.proofs.LineLaws.{node-as-text}
 use borrow.Author.Needs.{needs}
 use Rattle.store_nodes.proofs.reservoir_line.Statement.{statement}
 use Rattle.store_nodes.proofs.reservoir_line.Tie as tie
-use Rattle.store_nodes.proofs.reservoir_line.Reads as reads
-use Rattle.store_nodes.proofs.reservoir_line.Lts as lts
-use Rattle.parse_nodes.proofs.read_reservoir.Reads as read-reservoir-reads
-use Rattle.store_nodes.proofs.store_read.Reads as store-read-reads
 
 slice-aggregate-read-reservoir : tie.Need-slice-aggregate-read-reservoir
 slice-aggregate-read-reservoir c = sym (length-take-le (c .before .before .before .before .args .end) (now (c .before .before .before .before .args .text)) (c .before .before .before .before .pre .1))

@@ -8,12 +8,6 @@ use Rattle.store_nodes.proofs.StoreLaws.{junction-used, nodes-full, dem
 use borrow.Author.Needs.{needs}
 use Rattle.store_nodes.proofs.store_junction.Statement.{statement}
 use Rattle.store_nodes.proofs.store_junction.Tie as tie
-use Rattle.store_nodes.proofs.store_junction.Reads as reads
-use Rattle.store_nodes.proofs.store_junction.Lts as lts
-use Rattle.leaf_fields.proofs.letters_of.Reads as letters-of-reads
-use Rattle.store_nodes.proofs.put_junction.Reads as put-junction-reads
-use Rattle.table_rows.proofs.find.Reads as find-reads
-use Rattle.table_rows.proofs.id_words.Reads as id-words-reads
 
 id-words-requires : tie.Need-id-words-requires
 id-words-requires c κs = search needs

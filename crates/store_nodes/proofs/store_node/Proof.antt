@@ -9,13 +9,6 @@ use Rattle.store_nodes.proofs.StoreLaws.{node-used, node-full, node-sto
 use borrow.Author.Needs.{needs}
 use Rattle.store_nodes.proofs.store_node.Statement.{statement}
 use Rattle.store_nodes.proofs.store_node.Tie as tie
-use Rattle.store_nodes.proofs.store_node.Reads as reads
-use Rattle.store_nodes.proofs.store_node.Lts as lts
-use Rattle.leaf_fields.proofs.letters_of.Reads as letters-of-reads
-use Rattle.store_nodes.proofs.put_node.Reads as put-node-reads
-use Rattle.table_rows.proofs.find.Reads as find-reads
-use Rattle.table_rows.proofs.id_words.Reads as id-words-reads
-use Rattle.table_rows.proofs.paste_numbers.Reads as paste-numbers-reads
 
 id-words-requires : tie.Need-id-words-requires
 id-words-requires c κs = search needs

@@ -4,10 +4,6 @@ use Rattle.store_nodes.proofs.LineLaws.{node-told, node-good, node-bad}
 use borrow.Author.Needs.{needs}
 use Rattle.store_nodes.proofs.store_read.Statement.{statement}
 use Rattle.store_nodes.proofs.store_read.Tie as tie
-use Rattle.store_nodes.proofs.store_read.Reads as reads
-use Rattle.store_nodes.proofs.store_read.Lts as lts
-use Rattle.store_nodes.proofs.store_reservoir.Reads as store-reservoir-reads
-use Rattle.store_nodes.proofs.store_tank.Reads as store-tank-reads
 
 enum-known-read : tie.Need-enum-known-read
 enum-known-read c = search needs

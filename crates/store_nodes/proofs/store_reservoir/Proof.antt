@@ -4,9 +4,6 @@ use Rattle.store_nodes.proofs.StoreLaws.{reservoir-kind}
 use borrow.Author.Needs.{needs}
 use Rattle.store_nodes.proofs.store_reservoir.Statement.{statement}
 use Rattle.store_nodes.proofs.store_reservoir.Tie as tie
-use Rattle.store_nodes.proofs.store_reservoir.Reads as reads
-use Rattle.store_nodes.proofs.store_reservoir.Lts as lts
-use Rattle.store_nodes.proofs.store_node.Reads as store-node-reads
 
 slice-aggregate-store-node : tie.Need-slice-aggregate-store-node
 slice-aggregate-store-node c = search needs

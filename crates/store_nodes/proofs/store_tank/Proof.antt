@@ -4,10 +4,6 @@ use Rattle.store_nodes.proofs.StoreLaws.{tank-kind}
 use borrow.Author.Needs.{needs}
 use Rattle.store_nodes.proofs.store_tank.Statement.{statement}
 use Rattle.store_nodes.proofs.store_tank.Tie as tie
-use Rattle.store_nodes.proofs.store_tank.Reads as reads
-use Rattle.store_nodes.proofs.store_tank.Lts as lts
-use Rattle.store_nodes.proofs.store_node.Reads as store-node-reads
-use Rattle.table_rows.proofs.flag_of.Reads as flag-of-reads
 
 flag-of-requires : tie.Need-flag-of-requires
 flag-of-requires c κs = search needs

@@ -8,10 +8,6 @@ use Rattle.store_nodes.proofs.LineLaws.{node-as-text}
 use borrow.Author.Needs.{needs}
 use Rattle.store_nodes.proofs.tank_line.Statement.{statement}
 use Rattle.store_nodes.proofs.tank_line.Tie as tie
-use Rattle.store_nodes.proofs.tank_line.Reads as reads
-use Rattle.store_nodes.proofs.tank_line.Lts as lts
-use Rattle.parse_tanks.proofs.read_tank.Reads as read-tank-reads
-use Rattle.store_nodes.proofs.store_read.Reads as store-read-reads
 
 slice-aggregate-read-tank : tie.Need-slice-aggregate-read-tank
 slice-aggregate-read-tank c = sym (length-take-le (c .before .before .before .before .args .end) (now (c .before .before .before .before .args .text)) (c .before .before .before .before .pre .1))

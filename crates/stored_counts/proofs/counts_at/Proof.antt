@@ -4,8 +4,6 @@ use Rattle.stored_counts.proofs.CountsLaws.{counts-back, counts-long}
 use borrow.Author.Needs.{needs}
 use Rattle.stored_counts.proofs.counts_at.Statement.{statement}
 use Rattle.stored_counts.proofs.counts_at.Tie as tie
-use Rattle.stored_counts.proofs.counts_at.Reads as reads
-use Rattle.stored_counts.proofs.counts_at.Lts as lts
 
 returns : tie.Need-returns
 returns c = λ m rest e. absurd (omega (arith, counts-long m (now (c .before .args .words)) rest e))

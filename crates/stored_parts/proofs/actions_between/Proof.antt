@@ -2,9 +2,6 @@ use Rattle.stored_parts.proofs.PartsLaws.{the-others, none-between}
 use borrow.Author.Needs.{needs}
 use Rattle.stored_parts.proofs.actions_between.Statement.{statement}
 use Rattle.stored_parts.proofs.actions_between.Tie as tie
-use Rattle.stored_parts.proofs.actions_between.Reads as reads
-use Rattle.stored_parts.proofs.actions_between.Lts as lts
-use Rattle.stored_parts.proofs.conditions_between.Reads as conditions-between-reads
 
 returns : tie.Need-returns
 returns c = λ m g le. none-between (c .before .before .before .args .first) (c .before .before .before .args .end) (m .clauses) (c .if1 .taken)

@@ -10,11 +10,6 @@ use Rattle.stored_parts.specs.Parts.{howMany, between}
 use Rattle.stored_parts.proofs.PartsLaws.{none-yet, one-more, up-to-the-end, condition-back}
 use Rattle.stored_parts.proofs.conditions_between.Statement.{statement}
 use Rattle.stored_parts.proofs.conditions_between.Tie as tie
-use Rattle.stored_parts.proofs.conditions_between.Reads as reads
-use Rattle.stored_parts.proofs.conditions_between.Lts as lts
-use Rattle.stored_parts.proofs.is_condition.Reads as is-condition-reads
-use Rattle.stored_parts.proofs.one_if.Reads as one-if-reads
-use Rattle.stored_records.proofs.clause_at.Reads as clause-at-reads
 
 abbrev Inv-loop : tie.InvT-loop
 Inv-loop words numbers first end n₀ k₀ n k =

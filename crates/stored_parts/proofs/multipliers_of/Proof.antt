@@ -10,11 +10,6 @@ use Rattle.stored_parts.specs.Parts.{howMany, ofPattern, between}
 use Rattle.stored_parts.proofs.PartsLaws.{none-yet, one-more, all-of-them}
 use Rattle.stored_parts.proofs.multipliers_of.Statement.{statement}
 use Rattle.stored_parts.proofs.multipliers_of.Tie as tie
-use Rattle.stored_parts.proofs.multipliers_of.Reads as reads
-use Rattle.stored_parts.proofs.multipliers_of.Lts as lts
-use Rattle.stored_parts.proofs.one_if.Reads as one-if-reads
-use Rattle.stored_counts.proofs.counts_at.Reads as counts-at-reads
-use Rattle.stored_series.proofs.multiplier_at.Reads as multiplier-at-reads
 
 abbrev Inv-loop : tie.InvT-loop
 Inv-loop words numbers pattern all n₀ k₀ n k =

@@ -1,14 +1,10 @@
-use Prim.Native.Nat.{ℕ, _+_}
+use Prim.Native.Nat.{_+_}
 use native.Mathlib.Omega.{arith}
 use mathlib.Core.Path.{_≡_}
 use Rattle.scope.specs.Layout.{nameLength, clauseName}
 use borrow.Author.Needs.{needs}
 use Rattle.stored_records.proofs.action_at.Statement.{statement}
 use Rattle.stored_records.proofs.action_at.Tie as tie
-use Rattle.stored_records.proofs.action_at.Reads as reads
-use Rattle.stored_records.proofs.action_at.Lts as lts
-use Rattle.stored_records.proofs.span_at.Reads as span-at-reads
-use Rattle.table_codes.proofs.value_from.Reads as value-from-reads
 
 add-value-from : tie.Need-add-value-from
 add-value-from c = search needs

@@ -6,10 +6,6 @@ use Rattle.scope.specs.Layout.{clauseKind}
 use borrow.Author.Needs.{needs}
 use Rattle.stored_records.proofs.clause_by.Statement.{statement}
 use Rattle.stored_records.proofs.clause_by.Tie as tie
-use Rattle.stored_records.proofs.clause_by.Reads as reads
-use Rattle.stored_records.proofs.clause_by.Lts as lts
-use Rattle.stored_records.proofs.action_at.Reads as action-at-reads
-use Rattle.stored_records.proofs.condition_at.Reads as condition-at-reads
 
 add-if1 : tie.Need-add-if1
 add-if1 c = search needs

@@ -3,9 +3,6 @@ use Rattle.stored_records.proofs.BackLaws.{clause-is}
 use borrow.Author.Needs.{needs}
 use Rattle.stored_records.proofs.clause_row.Statement.{statement}
 use Rattle.stored_records.proofs.clause_row.Tie as tie
-use Rattle.stored_records.proofs.clause_row.Reads as reads
-use Rattle.stored_records.proofs.clause_row.Lts as lts
-use Rattle.stored_records.proofs.clause_by.Reads as clause-by-reads
 
 mul-clause-by : tie.Need-mul-clause-by
 mul-clause-by c = search needs

@@ -1,17 +1,10 @@
-use Prim.Native.Nat.{ℕ, _+_}
+use Prim.Native.Nat.{_+_}
 use native.Mathlib.Omega.{arith}
 use mathlib.Core.Path.{_≡_}
 use Rattle.scope.specs.Layout.{nameLength, clauseName}
 use borrow.Author.Needs.{needs}
 use Rattle.stored_records.proofs.condition_at.Statement.{statement}
 use Rattle.stored_records.proofs.condition_at.Tie as tie
-use Rattle.stored_records.proofs.condition_at.Reads as reads
-use Rattle.stored_records.proofs.condition_at.Lts as lts
-use Rattle.table_codes.proofs.comparison_from.Reads as comparison-from-reads
-use Rattle.stored_records.proofs.field_at.Reads as field-at-reads
-use Rattle.table_codes.proofs.operator_from.Reads as operator-from-reads
-use Rattle.table_codes.proofs.target_from.Reads as target-from-reads
-use Rattle.table_codes.proofs.value_from.Reads as value-from-reads
 
 add-operator-from : tie.Need-add-operator-from
 add-operator-from c = search needs

@@ -6,11 +6,6 @@ use Rattle.scope.specs.Layout.{nodeKind}
 use borrow.Author.Needs.{needs}
 use Rattle.stored_records.proofs.kind_at.Statement.{statement}
 use Rattle.stored_records.proofs.kind_at.Tie as tie
-use Rattle.stored_records.proofs.kind_at.Reads as reads
-use Rattle.stored_records.proofs.kind_at.Lts as lts
-use Rattle.stored_records.proofs.reservoir_at.Reads as reservoir-at-reads
-use Rattle.stored_records.proofs.tank_at.Reads as tank-at-reads
-use Rattle.stored_records.proofs.junction_at.Reads as junction-at-reads
 
 add-if1 : tie.Need-add-if1
 add-if1 c = search needs

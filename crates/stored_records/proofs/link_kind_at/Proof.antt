@@ -6,11 +6,6 @@ use Rattle.scope.specs.Layout.{linkKind}
 use borrow.Author.Needs.{needs}
 use Rattle.stored_records.proofs.link_kind_at.Statement.{statement}
 use Rattle.stored_records.proofs.link_kind_at.Tie as tie
-use Rattle.stored_records.proofs.link_kind_at.Reads as reads
-use Rattle.stored_records.proofs.link_kind_at.Lts as lts
-use Rattle.stored_records.proofs.pump_at.Reads as pump-at-reads
-use Rattle.stored_records.proofs.valve_at.Reads as valve-at-reads
-use Rattle.stored_records.proofs.pipe_at.Reads as pipe-at-reads
 
 add-if1 : tie.Need-add-if1
 add-if1 c = search needs

@@ -6,10 +6,6 @@ use Rattle.scope.specs.Layout.{linksAt, linksWidth}
 use borrow.Author.Needs.{needs}
 use Rattle.stored_records.proofs.link_row.Statement.{statement}
 use Rattle.stored_records.proofs.link_row.Tie as tie
-use Rattle.stored_records.proofs.link_row.Reads as reads
-use Rattle.stored_records.proofs.link_row.Lts as lts
-use Rattle.stored_records.proofs.link_kind_at.Reads as link-kind-at-reads
-use Rattle.stored_records.proofs.span_at.Reads as span-at-reads
 
 mul-a : tie.Need-mul-a
 mul-a c = search needs

@@ -10,10 +10,6 @@ use Rattle.scope.specs.Sections.{roomNodes}
 use borrow.Author.Needs.{needs}
 use Rattle.stored_records.proofs.node_at.Statement.{statement}
 use Rattle.stored_records.proofs.node_at.Tie as tie
-use Rattle.stored_records.proofs.node_at.Reads as reads
-use Rattle.stored_records.proofs.node_at.Lts as lts
-use Rattle.table_rows.proofs.have_room.Reads as have-room-reads
-use Rattle.stored_records.proofs.node_row.Reads as node-row-reads
 
 have-room-requires : tie.Need-have-room-requires
 have-room-requires c κs = search needs

@@ -6,10 +6,6 @@ use Rattle.scope.specs.Layout.{nodesAt, nodesWidth}
 use borrow.Author.Needs.{needs}
 use Rattle.stored_records.proofs.node_row.Statement.{statement}
 use Rattle.stored_records.proofs.node_row.Tie as tie
-use Rattle.stored_records.proofs.node_row.Reads as reads
-use Rattle.stored_records.proofs.node_row.Lts as lts
-use Rattle.stored_records.proofs.kind_at.Reads as kind-at-reads
-use Rattle.stored_records.proofs.span_at.Reads as span-at-reads
 
 mul-a : tie.Need-mul-a
 mul-a c = search needs

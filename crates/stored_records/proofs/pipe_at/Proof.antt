@@ -1,9 +1,6 @@
 use borrow.Author.Needs.{needs}
 use Rattle.stored_records.proofs.pipe_at.Statement.{statement}
 use Rattle.stored_records.proofs.pipe_at.Tie as tie
-use Rattle.stored_records.proofs.pipe_at.Reads as reads
-use Rattle.stored_records.proofs.pipe_at.Lts as lts
-use Rattle.table_codes.proofs.pipe_status_from.Reads as pipe-status-from-reads
 
 add-pipe-status-from : tie.Need-add-pipe-status-from
 add-pipe-status-from c = search needs

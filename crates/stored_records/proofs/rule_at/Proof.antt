@@ -9,10 +9,6 @@ use Rattle.scope.specs.Sections.{roomRules}
 use borrow.Author.Needs.{needs}
 use Rattle.stored_records.proofs.rule_at.Statement.{statement}
 use Rattle.stored_records.proofs.rule_at.Tie as tie
-use Rattle.stored_records.proofs.rule_at.Reads as reads
-use Rattle.stored_records.proofs.rule_at.Lts as lts
-use Rattle.table_rows.proofs.has_room.Reads as has-room-reads
-use Rattle.stored_records.proofs.rule_row.Reads as rule-row-reads
 
 has-room-requires : tie.Need-has-room-requires
 has-room-requires c κs = search needs

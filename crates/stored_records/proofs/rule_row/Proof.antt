@@ -6,10 +6,6 @@ use Rattle.stored_records.proofs.BackLaws.{rule-is, span-first}
 use borrow.Author.Needs.{needs}
 use Rattle.stored_records.proofs.rule_row.Statement.{statement}
 use Rattle.stored_records.proofs.rule_row.Tie as tie
-use Rattle.stored_records.proofs.rule_row.Reads as reads
-use Rattle.stored_records.proofs.rule_row.Lts as lts
-use Rattle.table_codes.proofs.amount_from.Reads as amount-from-reads
-use Rattle.stored_records.proofs.span_at.Reads as span-at-reads
 
 mul-a : tie.Need-mul-a
 mul-a c = search needs

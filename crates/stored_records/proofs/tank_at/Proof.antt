@@ -1,13 +1,10 @@
-use Prim.Native.Nat.{ℕ, _+_}
+use Prim.Native.Nat.{_+_}
 use native.Mathlib.Omega.{arith}
 use mathlib.Core.Path.{_≡_}
 use Rattle.scope.specs.Layout.{nameLength, nodeName}
 use borrow.Author.Needs.{needs}
 use Rattle.stored_records.proofs.tank_at.Statement.{statement}
 use Rattle.stored_records.proofs.tank_at.Tie as tie
-use Rattle.stored_records.proofs.tank_at.Reads as reads
-use Rattle.stored_records.proofs.tank_at.Lts as lts
-use Rattle.stored_records.proofs.field_at.Reads as field-at-reads
 
 add-field-at : tie.Need-add-field-at
 add-field-at c = search needs

@@ -1,14 +1,10 @@
-use Prim.Native.Nat.{ℕ, _+_}
+use Prim.Native.Nat.{_+_}
 use native.Mathlib.Omega.{arith}
 use mathlib.Core.Path.{_≡_}
 use Rattle.scope.specs.Layout.{nameLength, linkName}
 use borrow.Author.Needs.{needs}
 use Rattle.stored_records.proofs.valve_at.Statement.{statement}
 use Rattle.stored_records.proofs.valve_at.Tie as tie
-use Rattle.stored_records.proofs.valve_at.Reads as reads
-use Rattle.stored_records.proofs.valve_at.Lts as lts
-use Rattle.stored_records.proofs.field_at.Reads as field-at-reads
-use Rattle.table_codes.proofs.valve_type_from.Reads as valve-type-from-reads
 
 add-valve-type-from : tie.Need-add-valve-type-from
 add-valve-type-from c = search needs

@@ -9,10 +9,6 @@ use Rattle.scope.specs.Sections.{roomCurves}
 use borrow.Author.Needs.{needs}
 use Rattle.stored_series.proofs.curve_at.Statement.{statement}
 use Rattle.stored_series.proofs.curve_at.Tie as tie
-use Rattle.stored_series.proofs.curve_at.Reads as reads
-use Rattle.stored_series.proofs.curve_at.Lts as lts
-use Rattle.stored_series.proofs.curve_row.Reads as curve-row-reads
-use Rattle.table_rows.proofs.has_room.Reads as has-room-reads
 
 has-room-requires : tie.Need-has-room-requires
 has-room-requires c κs = search needs

@@ -1,4 +1,4 @@
-use Prim.Native.Nat.{ℕ, _+_, _*_}
+use Prim.Native.Nat.{_+_, _*_}
 use Rattle.scope.specs.Layout.{nameLength, demandName, demandsAt, demandsWidth}
 use native.Mathlib.Omega.{arith}
 use mathlib.Core.Path.{_≡_}
@@ -6,10 +6,6 @@ use Rattle.stored_series.proofs.BackLaws.{demand-is}
 use borrow.Author.Needs.{needs}
 use Rattle.stored_series.proofs.demand_row.Statement.{statement}
 use Rattle.stored_series.proofs.demand_row.Tie as tie
-use Rattle.stored_series.proofs.demand_row.Reads as reads
-use Rattle.stored_series.proofs.demand_row.Lts as lts
-use Rattle.stored_records.proofs.field_at.Reads as field-at-reads
-use Rattle.table_codes.proofs.found_from.Reads as found-from-reads
 
 mul-a : tie.Need-mul-a
 mul-a c = search needs

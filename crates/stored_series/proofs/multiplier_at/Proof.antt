@@ -10,10 +10,6 @@ use Rattle.scope.specs.Sections.{roomMultipliers}
 use borrow.Author.Needs.{needs}
 use Rattle.stored_series.proofs.multiplier_at.Statement.{statement}
 use Rattle.stored_series.proofs.multiplier_at.Tie as tie
-use Rattle.stored_series.proofs.multiplier_at.Reads as reads
-use Rattle.stored_series.proofs.multiplier_at.Lts as lts
-use Rattle.table_rows.proofs.have_room.Reads as have-room-reads
-use Rattle.stored_series.proofs.multiplier_row.Reads as multiplier-row-reads
 
 have-room-requires : tie.Need-have-room-requires
 have-room-requires c κs = search needs

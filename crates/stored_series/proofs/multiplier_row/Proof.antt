@@ -2,8 +2,6 @@ use Rattle.stored_series.proofs.BackLaws.{multiplier-is}
 use borrow.Author.Needs.{needs}
 use Rattle.stored_series.proofs.multiplier_row.Statement.{statement}
 use Rattle.stored_series.proofs.multiplier_row.Tie as tie
-use Rattle.stored_series.proofs.multiplier_row.Reads as reads
-use Rattle.stored_series.proofs.multiplier_row.Lts as lts
 
 add-t4 : tie.Need-add-t4
 add-t4 c = search needs

@@ -9,10 +9,6 @@ use Rattle.scope.specs.Sections.{roomPatterns}
 use borrow.Author.Needs.{needs}
 use Rattle.stored_series.proofs.pattern_at.Statement.{statement}
 use Rattle.stored_series.proofs.pattern_at.Tie as tie
-use Rattle.stored_series.proofs.pattern_at.Reads as reads
-use Rattle.stored_series.proofs.pattern_at.Lts as lts
-use Rattle.table_rows.proofs.has_room.Reads as has-room-reads
-use Rattle.stored_series.proofs.pattern_row.Reads as pattern-row-reads
 
 has-room-requires : tie.Need-has-room-requires
 has-room-requires c κs = search needs

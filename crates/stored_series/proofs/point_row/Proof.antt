@@ -2,8 +2,6 @@ use Rattle.stored_series.proofs.BackLaws.{point-is}
 use borrow.Author.Needs.{needs}
 use Rattle.stored_series.proofs.point_row.Statement.{statement}
 use Rattle.stored_series.proofs.point_row.Tie as tie
-use Rattle.stored_series.proofs.point_row.Reads as reads
-use Rattle.stored_series.proofs.point_row.Lts as lts
 
 mul-b : tie.Need-mul-b
 mul-b c = search needs

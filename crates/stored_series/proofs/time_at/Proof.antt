@@ -10,10 +10,6 @@ use Rattle.scope.specs.Layout.{roomTimes}
 use borrow.Author.Needs.{needs}
 use Rattle.stored_series.proofs.time_at.Statement.{statement}
 use Rattle.stored_series.proofs.time_at.Tie as tie
-use Rattle.stored_series.proofs.time_at.Reads as reads
-use Rattle.stored_series.proofs.time_at.Lts as lts
-use Rattle.table_rows.proofs.has_room.Reads as has-room-reads
-use Rattle.stored_series.proofs.time_row.Reads as time-row-reads
 
 has-room-requires : tie.Need-has-room-requires
 has-room-requires c κs = search needs

@@ -3,9 +3,6 @@ use Rattle.stored_series.proofs.BackLaws.{time-is}
 use borrow.Author.Needs.{needs}
 use Rattle.stored_series.proofs.time_row.Statement.{statement}
 use Rattle.stored_series.proofs.time_row.Tie as tie
-use Rattle.stored_series.proofs.time_row.Reads as reads
-use Rattle.stored_series.proofs.time_row.Lts as lts
-use Rattle.table_codes.proofs.amount_from.Reads as amount-from-reads
 
 mul-a : tie.Need-mul-a
 mul-a c = search needs

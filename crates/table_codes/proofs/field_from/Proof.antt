@@ -2,9 +2,6 @@ use borrow.Author.Tests.{ne-eqb}
 use borrow.Author.Needs.{needs}
 use Rattle.table_codes.proofs.field_from.Statement.{statement}
 use Rattle.table_codes.proofs.field_from.Tie as tie
-use Rattle.table_codes.proofs.field_from.Reads as reads
-use Rattle.table_codes.proofs.field_from.Lts as lts
-use Rattle.table_codes.proofs.span_from.Reads as span-from-reads
 
 returns : tie.Need-returns
 returns c = rw (c .if1 .taken)

@@ -2,8 +2,6 @@ use borrow.Author.Tests.{ne-eqb}
 use borrow.Author.Needs.{needs}
 use Rattle.table_codes.proofs.found_from.Statement.{statement}
 use Rattle.table_codes.proofs.found_from.Tie as tie
-use Rattle.table_codes.proofs.found_from.Reads as reads
-use Rattle.table_codes.proofs.found_from.Lts as lts
 
 returns : tie.Need-returns
 returns c = rw (c .if1 .taken)

@@ -1,8 +1,6 @@
 use borrow.Author.Tests.{ne-eqb}
 use Rattle.table_codes.proofs.pipe_status_from.Statement.{statement}
 use Rattle.table_codes.proofs.pipe_status_from.Tie as tie
-use Rattle.table_codes.proofs.pipe_status_from.Reads as reads
-use Rattle.table_codes.proofs.pipe_status_from.Lts as lts
 
 returns : tie.Need-returns
 returns c = rw (c .if1 .taken)

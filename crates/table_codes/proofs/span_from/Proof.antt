@@ -3,8 +3,6 @@ use Prim.Native.Nat.{_-_}
 use borrow.Author.Needs.{needs}
 use Rattle.table_codes.proofs.span_from.Statement.{statement}
 use Rattle.table_codes.proofs.span_from.Tie as tie
-use Rattle.table_codes.proofs.span_from.Reads as reads
-use Rattle.table_codes.proofs.span_from.Lts as lts
 
 sub-if1 : tie.Need-sub-if1
 sub-if1 c = search needs

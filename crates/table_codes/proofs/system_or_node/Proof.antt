@@ -1,8 +1,6 @@
 use borrow.Author.Tests.{ne-eqb}
 use Rattle.table_codes.proofs.system_or_node.Statement.{statement}
 use Rattle.table_codes.proofs.system_or_node.Tie as tie
-use Rattle.table_codes.proofs.system_or_node.Reads as reads
-use Rattle.table_codes.proofs.system_or_node.Lts as lts
 
 returns : tie.Need-returns
 returns c = rw (c .if1 .taken)

@@ -1,8 +1,6 @@
 use borrow.Author.Tests.{ne-eqb}
 use Rattle.table_codes.proofs.tank_or_link.Statement.{statement}
 use Rattle.table_codes.proofs.tank_or_link.Tie as tie
-use Rattle.table_codes.proofs.tank_or_link.Reads as reads
-use Rattle.table_codes.proofs.tank_or_link.Lts as lts
 
 returns : tie.Need-returns
 returns c = rw (c .if1 .taken)

@@ -2,10 +2,6 @@ use borrow.Author.Tests.{lt-ltb, le-ltb}
 use borrow.Author.Needs.{needs}
 use Rattle.table_codes.proofs.target_from.Statement.{statement}
 use Rattle.table_codes.proofs.target_from.Tie as tie
-use Rattle.table_codes.proofs.target_from.Reads as reads
-use Rattle.table_codes.proofs.target_from.Lts as lts
-use Rattle.table_codes.proofs.system_or_node.Reads as system-or-node-reads
-use Rattle.table_codes.proofs.tank_or_link.Reads as tank-or-link-reads
 
 system-or-node-requires : tie.Need-system-or-node-requires
 system-or-node-requires c κs = search needs

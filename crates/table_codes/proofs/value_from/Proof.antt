@@ -2,9 +2,6 @@ use borrow.Author.Tests.{ne-eqb}
 use borrow.Author.Needs.{needs}
 use Rattle.table_codes.proofs.value_from.Statement.{statement}
 use Rattle.table_codes.proofs.value_from.Tie as tie
-use Rattle.table_codes.proofs.value_from.Reads as reads
-use Rattle.table_codes.proofs.value_from.Lts as lts
-use Rattle.table_codes.proofs.status_from.Reads as status-from-reads
 
 returns : tie.Need-returns
 returns c = rw (c .if1 .taken)

@@ -2,8 +2,6 @@ use lib.Ieee.{ofBits}
 use borrow.Author.Needs.{needs}
 use Rattle.table_codes.proofs.value_number.Statement.{statement}
 use Rattle.table_codes.proofs.value_number.Tie as tie
-use Rattle.table_codes.proofs.value_number.Reads as reads
-use Rattle.table_codes.proofs.value_number.Lts as lts
 
 enum-known-v : tie.Need-enum-known-v
 enum-known-v c = search needs

@@ -7,12 +7,6 @@ use Rattle.table_rows.proofs.FindLaws.{base-small, ids-long, kind-rows}
 use borrow.Author.Needs.{needs}
 use Rattle.table_rows.proofs.find.Statement.{statement}
 use Rattle.table_rows.proofs.find.Tie as tie
-use Rattle.table_rows.proofs.find.Reads as reads
-use Rattle.table_rows.proofs.find.Lts as lts
-use Rattle.table_rows.proofs.base_of.Reads as base-of-reads
-use Rattle.table_rows.proofs.start_of.Reads as start-of-reads
-use Rattle.table_rows.proofs.walk_rows.Reads as walk-rows-reads
-use Rattle.table_rows.proofs.width_of.Reads as width-of-reads
 
 start-of-requires : tie.Need-start-of-requires
 start-of-requires c κs = words-long (c .before .before .before .pre .0 .1)

@@ -4,8 +4,6 @@ use borrow.Author.Tests.{le-leb, lt-leb}
 use Rattle.scope.specs.Layout.{recordWords}
 use Rattle.table_rows.proofs.has_room.Statement.{statement}
 use Rattle.table_rows.proofs.has_room.Tie as tie
-use Rattle.table_rows.proofs.has_room.Reads as reads
-use Rattle.table_rows.proofs.has_room.Lts as lts
 
 returns : tie.Need-returns
 returns c = rw (le-leb recordWords (length (now (c .before .args .words))) (c .if1 .taken))

@@ -5,9 +5,6 @@ use borrow.Author.Needs.{needs}
 use Rattle.scope.specs.Layout.{roomNumbers}
 use Rattle.table_rows.proofs.have_room.Statement.{statement}
 use Rattle.table_rows.proofs.have_room.Tie as tie
-use Rattle.table_rows.proofs.have_room.Reads as reads
-use Rattle.table_rows.proofs.have_room.Lts as lts
-use Rattle.table_rows.proofs.has_room.Reads as has-room-reads
 
 has-room-requires : tie.Need-has-room-requires
 has-room-requires c κs = search needs

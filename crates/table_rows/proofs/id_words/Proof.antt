@@ -1,10 +1,6 @@
 use borrow.Author.Needs.{needs}
 use Rattle.table_rows.proofs.id_words.Statement.{statement}
 use Rattle.table_rows.proofs.id_words.Tie as tie
-use Rattle.table_rows.proofs.id_words.Reads as reads
-use Rattle.table_rows.proofs.id_words.Lts as lts
-use Rattle.leaf_fields.proofs.letters_of.Reads as letters-of-reads
-use Rattle.table_rows.proofs.key_at.Reads as key-at-reads
 
 letters-of-requires : tie.Need-letters-of-requires
 letters-of-requires c κs = search needs

@@ -1,4 +1,3 @@
-use Prim.Native.Nat.{ℕ, _<_}
 use native.Mathlib.Omega.{arith}
 use native.Mathlib.Numerals.{add-one}
 use mathlib.Core.Path.{subst}
@@ -7,8 +6,6 @@ use Rattle.table_rows.specs.Holding.{Below}
 use borrow.Author.Needs.{needs}
 use Rattle.table_rows.proofs.index_number.Statement.{statement}
 use Rattle.table_rows.proofs.index_number.Tie as tie
-use Rattle.table_rows.proofs.index_number.Reads as reads
-use Rattle.table_rows.proofs.index_number.Lts as lts
 
 enum-known-f : tie.Need-enum-known-f
 enum-known-f c = search needs

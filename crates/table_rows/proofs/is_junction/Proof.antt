@@ -2,8 +2,6 @@ use Rattle.table_rows.proofs.ReadLaws.{is-junction}
 use borrow.Author.Needs.{needs}
 use Rattle.table_rows.proofs.is_junction.Statement.{statement}
 use Rattle.table_rows.proofs.is_junction.Tie as tie
-use Rattle.table_rows.proofs.is_junction.Reads as reads
-use Rattle.table_rows.proofs.is_junction.Lts as lts
 
 mul-result : tie.Need-mul-result
 mul-result c = search needs

@@ -2,8 +2,6 @@ use Rattle.table_rows.proofs.ReadLaws.{is-pipe}
 use borrow.Author.Needs.{needs}
 use Rattle.table_rows.proofs.is_pipe.Statement.{statement}
 use Rattle.table_rows.proofs.is_pipe.Tie as tie
-use Rattle.table_rows.proofs.is_pipe.Reads as reads
-use Rattle.table_rows.proofs.is_pipe.Lts as lts
 
 mul-result : tie.Need-mul-result
 mul-result c = search needs

@@ -2,8 +2,6 @@ use Rattle.table_rows.proofs.ReadLaws.{is-pump}
 use borrow.Author.Needs.{needs}
 use Rattle.table_rows.proofs.is_pump.Statement.{statement}
 use Rattle.table_rows.proofs.is_pump.Tie as tie
-use Rattle.table_rows.proofs.is_pump.Reads as reads
-use Rattle.table_rows.proofs.is_pump.Lts as lts
 
 mul-result : tie.Need-mul-result
 mul-result c = search needs

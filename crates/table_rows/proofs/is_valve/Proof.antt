@@ -2,8 +2,6 @@ use Rattle.table_rows.proofs.ReadLaws.{is-valve}
 use borrow.Author.Needs.{needs}
 use Rattle.table_rows.proofs.is_valve.Statement.{statement}
 use Rattle.table_rows.proofs.is_valve.Tie as tie
-use Rattle.table_rows.proofs.is_valve.Reads as reads
-use Rattle.table_rows.proofs.is_valve.Lts as lts
 
 mul-result : tie.Need-mul-result
 mul-result c = search needs

@@ -4,8 +4,6 @@ use Rattle.table_rows.proofs.SlotLaws.{mark-free, mark-taken}
 use borrow.Author.Needs.{needs}
 use Rattle.table_rows.proofs.mark.Statement.{statement}
 use Rattle.table_rows.proofs.mark.Tie as tie
-use Rattle.table_rows.proofs.mark.Reads as reads
-use Rattle.table_rows.proofs.mark.Lts as lts
 
 mul-if1 : tie.Need-mul-if1
 mul-if1 c = search needs

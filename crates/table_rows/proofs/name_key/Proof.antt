@@ -6,9 +6,6 @@ use lib.ListN.{length, getD}
 use Rattle.table_rows.proofs.LookLaws.{Packing, pack-start, pack-fits, pack-next, pack-end}
 use Rattle.table_rows.proofs.name_key.Statement.{statement}
 use Rattle.table_rows.proofs.name_key.Tie as tie
-use Rattle.table_rows.proofs.name_key.Reads as reads
-use Rattle.table_rows.proofs.name_key.Lts as lts
-use Rattle.leaf_letters.proofs.cut.Reads as cut-reads
 
 abbrev Inv-loop : tie.InvT-loop
 Inv-loop name l k₀ i₀ k i =

@@ -1,9 +1,6 @@
 use borrow.Author.Needs.{needs}
 use Rattle.table_rows.proofs.name_words.Statement.{statement}
 use Rattle.table_rows.proofs.name_words.Tie as tie
-use Rattle.table_rows.proofs.name_words.Reads as reads
-use Rattle.table_rows.proofs.name_words.Lts as lts
-use Rattle.leaf_fields.proofs.letters_of.Reads as letters-of-reads
 
 enum-known-f : tie.Need-enum-known-f
 enum-known-f c = search needs

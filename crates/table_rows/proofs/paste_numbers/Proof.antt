@@ -8,8 +8,6 @@ use lib.Ieee.{nan}
 use lib.Seq.{paste, paste-zero, paste-suc, take-length}
 use Rattle.table_rows.proofs.paste_numbers.Statement.{statement}
 use Rattle.table_rows.proofs.paste_numbers.Tie as tie
-use Rattle.table_rows.proofs.paste_numbers.Reads as reads
-use Rattle.table_rows.proofs.paste_numbers.Lts as lts
 
 abbrev Inv-loop : tie.InvT-loop
 Inv-loop numbers₀ at rec i₀ numbers i = (i ≤ length rec) × (length numbers ≡ length numbers₀) × (numbers ≡ paste numbers₀ at rec i)

@@ -7,8 +7,6 @@ use lib.ListN.{length, length-set}
 use lib.Seq.{paste, paste-zero, paste-suc, take-length}
 use Rattle.table_rows.proofs.paste_words.Statement.{statement}
 use Rattle.table_rows.proofs.paste_words.Tie as tie
-use Rattle.table_rows.proofs.paste_words.Reads as reads
-use Rattle.table_rows.proofs.paste_words.Lts as lts
 
 abbrev Inv-loop : tie.InvT-loop
 Inv-loop words₀ at rec i₀ words i = (i ≤ length rec) × (length words ≡ length words₀) × (words ≡ paste words₀ at rec i)

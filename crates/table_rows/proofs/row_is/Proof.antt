@@ -8,9 +8,6 @@ use Rattle.table_rows.proofs.LookLaws.{other-key, other-length, key-tel
 use borrow.Author.Needs.{needs}
 use Rattle.table_rows.proofs.row_is.Statement.{statement}
 use Rattle.table_rows.proofs.row_is.Tie as tie
-use Rattle.table_rows.proofs.row_is.Reads as reads
-use Rattle.table_rows.proofs.row_is.Lts as lts
-use Rattle.leaf_letters.proofs.equal.Reads as equal-reads
 
 add-if1 : tie.Need-add-if1
 add-if1 c = search needs

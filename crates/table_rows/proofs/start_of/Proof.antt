@@ -5,10 +5,6 @@ use Rattle.table_rows.proofs.FindLaws.{nodes-start, links-start, curves
 use borrow.Author.Needs.{needs}
 use Rattle.table_rows.proofs.start_of.Statement.{statement}
 use Rattle.table_rows.proofs.start_of.Tie as tie
-use Rattle.table_rows.proofs.start_of.Reads as reads
-use Rattle.table_rows.proofs.start_of.Lts as lts
-use Rattle.table_rows.proofs.first_in_slot.Reads as first-in-slot-reads
-use Rattle.table_rows.proofs.slot_of.Reads as slot-of-reads
 
 slot-of-requires : tie.Need-slot-of-requires
 slot-of-requires c κs = search needs

@@ -3,9 +3,6 @@ use borrow.Author.Needs.{needs}
 use lib.ListN.{length}
 use Rattle.tally.proofs.show_refusals.Statement.{statement}
 use Rattle.tally.proofs.show_refusals.Tie as tie
-use Rattle.tally.proofs.show_refusals.Reads as reads
-use Rattle.tally.proofs.show_refusals.Lts as lts
-use Rattle.tally.proofs.show_refusal.Reads as show-refusal-reads
 
 abbrev Inv-loop : tie.InvT-loop
 Inv-loop reasons i₀ i = i ≤ length reasons

@@ -2,11 +2,6 @@ use Prim.Native.Nat.{_-_, _≤_}
 use borrow.Author.Needs.{needs}
 use Rattle.write_links.proofs.show_links.Statement.{statement}
 use Rattle.write_links.proofs.show_links.Tie as tie
-use Rattle.write_links.proofs.show_links.Reads as reads
-use Rattle.write_links.proofs.show_links.Lts as lts
-use Rattle.write_links.proofs.show_link.Reads as show-link-reads
-use Rattle.stored_records.proofs.link_at.Reads as link-at-reads
-use Rattle.stored_counts.proofs.counts_at.Reads as counts-at-reads
 
 abbrev Inv-loop : tie.InvT-loop
 Inv-loop text words numbers all i₀ i = i ≤ all

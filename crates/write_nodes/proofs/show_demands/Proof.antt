@@ -2,11 +2,6 @@ use Prim.Native.Nat.{_-_, _≤_}
 use borrow.Author.Needs.{needs}
 use Rattle.write_nodes.proofs.show_demands.Statement.{statement}
 use Rattle.write_nodes.proofs.show_demands.Tie as tie
-use Rattle.write_nodes.proofs.show_demands.Reads as reads
-use Rattle.write_nodes.proofs.show_demands.Lts as lts
-use Rattle.write_nodes.proofs.show_demand.Reads as show-demand-reads
-use Rattle.stored_counts.proofs.counts_at.Reads as counts-at-reads
-use Rattle.stored_series.proofs.demand_at.Reads as demand-at-reads
 
 abbrev Inv-loop : tie.InvT-loop
 Inv-loop text words numbers node all k₀ k = k ≤ all

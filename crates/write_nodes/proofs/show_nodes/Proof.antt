@@ -2,10 +2,6 @@ use Prim.Native.Nat.{_-_, _≤_}
 use borrow.Author.Needs.{needs}
 use Rattle.write_nodes.proofs.show_nodes.Statement.{statement}
 use Rattle.write_nodes.proofs.show_nodes.Tie as tie
-use Rattle.write_nodes.proofs.show_nodes.Reads as reads
-use Rattle.write_nodes.proofs.show_nodes.Lts as lts
-use Rattle.write_nodes.proofs.show_node.Reads as show-node-reads
-use Rattle.stored_counts.proofs.counts_at.Reads as counts-at-reads
 
 abbrev Inv-loop : tie.InvT-loop
 Inv-loop text words numbers all i₀ i = i ≤ all

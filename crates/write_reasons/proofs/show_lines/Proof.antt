@@ -3,11 +3,6 @@ use borrow.Author.Needs.{needs}
 use Rattle.scope.specs.Sections.{roomLines}
 use Rattle.write_reasons.proofs.show_lines.Statement.{statement}
 use Rattle.write_reasons.proofs.show_lines.Tie as tie
-use Rattle.write_reasons.proofs.show_lines.Reads as reads
-use Rattle.write_reasons.proofs.show_lines.Lts as lts
-use Rattle.write_reasons.proofs.show_line.Reads as show-line-reads
-use Rattle.leaf_fields.proofs.letters_of.Reads as letters-of-reads
-use Rattle.leaf_scans.proofs.line_end.Reads as line-end-reads
 
 abbrev Inv-loop : tie.InvT-loop
 Inv-loop text classes reasons is-open₀ at₀ i₀ is-open at i = i ≤ roomLines

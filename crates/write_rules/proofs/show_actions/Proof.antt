@@ -2,10 +2,6 @@ use Prim.Native.Nat.{_-_, _≤_}
 use borrow.Author.Needs.{needs}
 use Rattle.write_rules.proofs.show_actions.Statement.{statement}
 use Rattle.write_rules.proofs.show_actions.Tie as tie
-use Rattle.write_rules.proofs.show_actions.Reads as reads
-use Rattle.write_rules.proofs.show_actions.Lts as lts
-use Rattle.write_rules.proofs.show_action.Reads as show-action-reads
-use Rattle.stored_records.proofs.clause_at.Reads as clause-at-reads
 
 abbrev Inv-loop : tie.InvT-loop
 Inv-loop text words numbers first end k₀ k = first ≤ k

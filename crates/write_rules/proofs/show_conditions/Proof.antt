@@ -2,10 +2,6 @@ use Prim.Native.Nat.{_-_, _≤_}
 use borrow.Author.Needs.{needs}
 use Rattle.write_rules.proofs.show_conditions.Statement.{statement}
 use Rattle.write_rules.proofs.show_conditions.Tie as tie
-use Rattle.write_rules.proofs.show_conditions.Reads as reads
-use Rattle.write_rules.proofs.show_conditions.Lts as lts
-use Rattle.write_rules.proofs.show_condition.Reads as show-condition-reads
-use Rattle.stored_records.proofs.clause_at.Reads as clause-at-reads
 
 abbrev Inv-loop : tie.InvT-loop
 Inv-loop text words numbers first end k₀ k = first ≤ k

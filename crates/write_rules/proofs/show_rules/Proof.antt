@@ -2,11 +2,6 @@ use Prim.Native.Nat.{_-_, _≤_}
 use borrow.Author.Needs.{needs}
 use Rattle.write_rules.proofs.show_rules.Statement.{statement}
 use Rattle.write_rules.proofs.show_rules.Tie as tie
-use Rattle.write_rules.proofs.show_rules.Reads as reads
-use Rattle.write_rules.proofs.show_rules.Lts as lts
-use Rattle.write_rules.proofs.show_rule.Reads as show-rule-reads
-use Rattle.stored_records.proofs.rule_at.Reads as rule-at-reads
-use Rattle.stored_counts.proofs.counts_at.Reads as counts-at-reads
 
 abbrev Inv-loop : tie.InvT-loop
 Inv-loop text words numbers all i₀ i = i ≤ all

@@ -2,10 +2,6 @@ use Prim.Native.Nat.{_-_, _≤_}
 use borrow.Author.Needs.{needs}
 use Rattle.write_series.proofs.show_curves.Statement.{statement}
 use Rattle.write_series.proofs.show_curves.Tie as tie
-use Rattle.write_series.proofs.show_curves.Reads as reads
-use Rattle.write_series.proofs.show_curves.Lts as lts
-use Rattle.write_series.proofs.show_curve.Reads as show-curve-reads
-use Rattle.stored_counts.proofs.counts_at.Reads as counts-at-reads
 
 abbrev Inv-loop : tie.InvT-loop
 Inv-loop text words numbers all i₀ i = i ≤ all

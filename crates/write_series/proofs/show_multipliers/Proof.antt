@@ -2,11 +2,6 @@ use Prim.Native.Nat.{_-_, _≤_}
 use borrow.Author.Needs.{needs}
 use Rattle.write_series.proofs.show_multipliers.Statement.{statement}
 use Rattle.write_series.proofs.show_multipliers.Tie as tie
-use Rattle.write_series.proofs.show_multipliers.Reads as reads
-use Rattle.write_series.proofs.show_multipliers.Lts as lts
-use Rattle.write_text.proofs.number.Reads as number-reads
-use Rattle.stored_counts.proofs.counts_at.Reads as counts-at-reads
-use Rattle.stored_series.proofs.multiplier_at.Reads as multiplier-at-reads
 
 abbrev Inv-loop : tie.InvT-loop
 Inv-loop words numbers pattern all k₀ k = k ≤ all

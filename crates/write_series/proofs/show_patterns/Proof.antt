@@ -2,10 +2,6 @@ use Prim.Native.Nat.{_-_, _≤_}
 use borrow.Author.Needs.{needs}
 use Rattle.write_series.proofs.show_patterns.Statement.{statement}
 use Rattle.write_series.proofs.show_patterns.Tie as tie
-use Rattle.write_series.proofs.show_patterns.Reads as reads
-use Rattle.write_series.proofs.show_patterns.Lts as lts
-use Rattle.write_series.proofs.show_pattern.Reads as show-pattern-reads
-use Rattle.stored_counts.proofs.counts_at.Reads as counts-at-reads
 
 abbrev Inv-loop : tie.InvT-loop
 Inv-loop text words numbers all i₀ i = i ≤ all

@@ -2,11 +2,6 @@ use Prim.Native.Nat.{_-_, _≤_}
 use borrow.Author.Needs.{needs}
 use Rattle.write_series.proofs.show_points.Statement.{statement}
 use Rattle.write_series.proofs.show_points.Tie as tie
-use Rattle.write_series.proofs.show_points.Reads as reads
-use Rattle.write_series.proofs.show_points.Lts as lts
-use Rattle.write_text.proofs.pair.Reads as pair-reads
-use Rattle.stored_counts.proofs.counts_at.Reads as counts-at-reads
-use Rattle.stored_series.proofs.point_at.Reads as point-at-reads
 
 abbrev Inv-loop : tie.InvT-loop
 Inv-loop words numbers curve all k₀ k = k ≤ all

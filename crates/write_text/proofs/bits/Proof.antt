@@ -5,10 +5,6 @@ use lib.Ieee.{Float, nan, inf, fin, isNan, ne}
 use borrow.Author.Needs.{needs}
 use Rattle.write_text.proofs.bits.Statement.{statement}
 use Rattle.write_text.proofs.bits.Tie as tie
-use Rattle.write_text.proofs.bits.Reads as reads
-use Rattle.write_text.proofs.bits.Lts as lts
-use Rattle.io.proofs.print_hex.Reads as print-hex-reads
-use Rattle.write_text.proofs.write.Reads as write-reads
 
 -- a number that equals itself is no NaN
 equals-itself : (x : Float) → ne x x ≡ false → T (not (isNan x))

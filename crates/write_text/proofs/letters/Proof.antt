@@ -3,9 +3,6 @@ use borrow.Author.Needs.{needs}
 use lib.ListN.{length}
 use Rattle.write_text.proofs.letters.Statement.{statement}
 use Rattle.write_text.proofs.letters.Tie as tie
-use Rattle.write_text.proofs.letters.Reads as reads
-use Rattle.write_text.proofs.letters.Lts as lts
-use Rattle.write_text.proofs.letter.Reads as letter-reads
 
 abbrev Inv-loop : tie.InvT-loop
 Inv-loop name i₀ i = i ≤ length name

@@ -3,9 +3,6 @@ use borrow.Author.Needs.{needs}
 use lib.ListN.{length}
 use Rattle.write_text.proofs.plain.Statement.{statement}
 use Rattle.write_text.proofs.plain.Tie as tie
-use Rattle.write_text.proofs.plain.Reads as reads
-use Rattle.write_text.proofs.plain.Lts as lts
-use Rattle.write_text.proofs.plain_letter.Reads as plain-letter-reads
 
 abbrev Inv-loop : tie.InvT-loop
 Inv-loop line i₀ i = i ≤ length line

@@ -1,8 +1,6 @@
 use borrow.Author.Needs.{needs}
 use Rattle.read_steps.proofs.State.joined.Statement.{statement}
 use Rattle.read_steps.proofs.State.joined.Tie as tie
-use Rattle.read_steps.proofs.State.joined.Reads as reads
-use Rattle.read_steps.proofs.State.joined.Lts as lts
 
 add-t6 : tie.Need-add-t6
 add-t6 c = search needs

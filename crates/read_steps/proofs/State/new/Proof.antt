@@ -1,9 +1,6 @@
 use borrow.Author.Needs.{needs}
 use Rattle.read_steps.proofs.State.new.Statement.{statement}
 use Rattle.read_steps.proofs.State.new.Tie as tie
-use Rattle.read_steps.proofs.State.new.Reads as reads
-use Rattle.read_steps.proofs.State.new.Lts as lts
-use Rattle.read_steps.proofs.no_counts.Reads as no-counts-reads
 
 no-counts-requires : tie.Need-no-counts-requires
 no-counts-requires c κs = search needs
