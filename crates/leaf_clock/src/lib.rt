@@ -31,7 +31,7 @@ fn colon_at(s: &[u8]) -> usize
 {
     let mut i = 0;
     while i < s.len() {
-        if s[i] == 58 {
+        if s[i] == b':' {
             return i;
         }
         i += 1;

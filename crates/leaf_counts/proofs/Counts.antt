@@ -1,6 +1,6 @@
 -- A count, one digit at a time. Assumes nothing.
 use mathlib.Core.Path.{_≡_, refl, sym, ap, _∙_}
-use mathlib.Core.Bool.{Bool, true, false, not, cond, _||_}
+use mathlib.Core.Bool.{Bool, true, false, not, cond, _||_, false≢true}
 use mathlib.Core.List.{List, [], _∷_}
 use Prim.Native.Nat.{ℕ, _+_, _-_, _*_, _^_, _≤_, _<_}
 use native.Mathlib.Nat.{le-trans}
@@ -10,12 +10,13 @@ use lib.ListN.{length, drop, getD, drop-of-length-le}
 use lib.Seq.{drop-cons}
 use lib.Dec.{leb, eqb}
 use borrow.Author.Tests.{eq-eqb, ne-eqb, le-leb, lt-leb}
-use Rattle.leaf_digits.specs.declared.Class.the-variants.{Digit}
+use Rattle.leaf_digits.specs.declared.Class.the-variants.{Digit, Sign}
 use Rattle.leaf_counts.specs.declared.Count.{Count}
 use Rattle.leaf_counts.specs.declared.Count.the-variants.{Whole, Uncounted}
-use Rattle.leaf_digits.specs.Bytes.{is}
+use Rattle.leaf_digits.specs.Bytes.{classOf, is}
 use Rattle.leaf_digits.specs.Digits.{digits, after, value, empty}
 use Rattle.leaf_counts.specs.Counts.{whole, countOf}
+use Rattle.leaf_digits.proofs.Classes.{class-is}
 use Rattle.leaf_digits.proofs.Digits.{digits-yes, digits-no, value-cons}
 use Rattle.leaf_digits.proofs.Lists.{head-of, nil-of}
 
@@ -97,6 +98,14 @@ pub count-plus : (s : List ℕ) → 0 < length s → getD s 0 0 ≡ 43 → count
 unfolding countOf
 count-plus s h e = ap countOf (head-of s h) ∙ simp (eq-eqb (getD s 0 0) 43 e)
 
-pub count-plain : (s : List ℕ) → 0 < length s → (getD s 0 0 ≡ 43 → ⊥) → countOf s ≡ whole s
+count-plain : (s : List ℕ) → 0 < length s → (getD s 0 0 ≡ 43 → ⊥) → countOf s ≡ whole s
 unfolding countOf
 count-plain s h n = ap countOf (head-of s h) ∙ (simp (ne-eqb (getD s 0 0) 43 n)) ∙ ap whole (sym (head-of s h))
+
+pub count-unsigned : (s : List ℕ) → 0 < length s → is Sign (getD s 0 0) ≡ false → countOf s ≡ whole s
+unfolding classOf
+count-unsigned s h e = count-plain s h (λ q. let z : _≡_ {A = Bool} true false = ap (is Sign) (sym q) ∙ e in absurd (false≢true (sym z)))
+
+-- another sign
+pub count-sign : (s : List ℕ) → 0 < length s → is Sign (getD s 0 0) ≡ true → (getD s 0 0 ≡ 43 → ⊥) → countOf s ≡ Uncounted
+count-sign s h e n = count-plain s h n ∙ sym (whole-start s h) ∙ from-other s 0 0 h (class-is Sign _ e Digit)

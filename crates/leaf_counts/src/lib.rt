@@ -1,6 +1,7 @@
 // Counts: a whole number below 2^64, with or without a plus. specs/Counts.antt says what is a count.
 ghost use mathlib.Core.Path.{_≡_};
 ghost use Rattle.leaf_counts.specs.Counts.{whole, countOf};
+use leaf_digits::Class;
 
 pub enum Count {
     Whole(u64),
@@ -38,9 +39,14 @@ pub fn read_count(s: &[u8]) -> Count
     if s.len() == 0 {
         return Count::Uncounted;
     }
-    if s[0] == 43 {
+    let b = s[0];
+    let k = leaf_digits::class_of(b);
+    let Class::Sign = k else {
+        return read_whole(s);
+    };
+    if b == b'+' {
         read_whole(&s[1..])
     } else {
-        read_whole(s)
+        Count::Uncounted
     }
 }

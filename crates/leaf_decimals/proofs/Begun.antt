@@ -7,14 +7,14 @@ use native.Mathlib.Omega.{arith}
 use native.Mathlib.Numerals.{add-one}
 use lib.ListN.{length, take, drop, getD, length-drop}
 use lib.Seq.{drop-cons, drop-drop, drop-at, take-add, length-take-le}
-use Rattle.leaf_digits.specs.declared.Class.the-variants.{Digit, Sign, Point}
-use Rattle.leaf_digits.specs.Bytes.{classOf, is}
+use Rattle.leaf_digits.specs.declared.Class.the-variants.{Space, Digit, Sign, Point}
+use Rattle.leaf_digits.specs.Bytes.{is}
 use Rattle.leaf_digits.specs.Digits.{digits, value}
 use Rattle.leaf_digits.specs.Cap.{cap}
 use Rattle.leaf_digits.specs.Ends.{wordLen, ended}
 use Rattle.leaf_digits.specs.Runs.{Room, Scanned}
 use Rattle.leaf_digits.proofs.Lists.{tail-of}
-use Rattle.leaf_digits.proofs.Classes.{digit-is, space-no-digit}
+use Rattle.leaf_digits.proofs.Classes.{class-is}
 use Rattle.leaf_digits.proofs.Digits.{digits-no, digits-nil, digits-yes, digits-stop, digits-le}
 use Rattle.leaf_digits.proofs.Ends.{word-on, word-off, word-digits}
 use Rattle.leaf_digits.proofs.Runs.{all-places, all-counted}
@@ -43,7 +43,7 @@ begun-no-sign [] n = absurd (n (ap length digits-nil))
 begun-no-sign (b ∷ t) n = go (is Digit b) refl
   where
     go : (x : Bool) → is Digit b ≡ x → is Sign b ≡ false
-    go true e = digit-is b e Sign
+    go true e = class-is Digit b e Sign
     go false e = absurd (n (ap length (digits-no b t e)))
 
 -- a text that begins with digits
@@ -77,28 +77,28 @@ module _ (s : List ℕ) (v n : ℕ) (en : n ≡ length (digits s)) (ev : v ≡ m
       )
 
   -- then a point, and m digits
-  module _ (t : List ℕ) (et : t ≡ drop (n + 1) s) (p : getD s n 0 ≡ 46) (g : n < length s) (x m : ℕ) (em : m ≡ length (digits t)) (ex : x ≡ min (value v (digits t)) cap) (more : m ≡ 0 → ⊥) where
-    opened : drop n s ≡ 46 ∷ t
-    opened = drop-cons s n 0 g ∙ rw (p, et, add-one)
+  module _ (t : List ℕ) (et : t ≡ drop (n + 1) s) (p : is Point (getD s n 0) ≡ true) (g : n < length s) (x m : ℕ) (em : m ≡ length (digits t))
+      (ex : x ≡ min (value v (digits t)) cap) (more : m ≡ 0 → ⊥) where
+    opened : drop n s ≡ getD s n 0 ∷ t
+    opened = drop-cons s n 0 g ∙ rw (et, add-one)
 
     many : m ≤ length t
     many = omega (arith, digits-le t)
 
-    behind : drop n (take (n + suc m) s) ≡ 46 ∷ take m t
+    behind : drop n (take (n + suc m) s) ≡ getD s n 0 ∷ take m t
     behind = ap (drop n) (take-add n (suc m) s) ∙ drop-at (take n s) (take (suc m) (drop n s)) n (length-take-le n s fits) ∙ ap (take (suc m)) opened
 
     pub plain-point : ended (drop m t) ≡ true → (r : Number) → r ≡ meaning false x 0 m → (n + 1 + m ≡ wordLen s) × (r ≡ numberOf (take (n + 1 + m) s))
-    unfolding classOf
     plain-point e r q =
         let k : n + 1 + m ≡ n + suc m = omega arith in
         let l : List ℕ = take (length (take (n + suc m) s) - n) (drop n (take (n + suc m) s)) in
-        let el : l ≡ 46 ∷ take m t = tail-of (take (n + suc m) s) n ∙ behind in
+        let el : l ≡ getD s n 0 ∷ take m t = tail-of (take (n + suc m) s) n ∙ behind in
         let c : digits (take m t) ≡ digits t = digits-cut m t (omega arith) in
-        let w : wordLen s ≡ n + suc (m + 0) = word-digits s ∙ rw (← en, opened, word-on 46 t refl, word-digits t, ← em, word-off (drop m t) e) in (
+        let w : wordLen s ≡ n + suc (m + 0) = word-digits s ∙ rw (← en, opened, word-on (getD s n 0) t (class-is Point _ p Space), word-digits t, ← em, word-off (drop m t) e) in (
           omega (arith, w),
           q
               ∙ point-only false v n l (take m t) x m (ap (drop 1) (sym el)) (em ∙ ap length (sym c)) (ex ∙ ap (λ (d : List ℕ). min (value v d) cap) (sym c))
-              (omega (arith, ap length el)) (ap (λ (d : List ℕ). is Point (getD d 0 0)) el) (omega (arith, more)) (sym (length-take-le m t many))
+              (omega (arith, ap length el)) (ap (λ (d : List ℕ). is Point (getD d 0 0)) el ∙ p) (omega (arith, more)) (sym (length-take-le m t many))
               ∙ cut-number (n + suc m) (omega arith)
               ∙ ap (λ (i : ℕ). numberOf (take i s)) (sym k),
         )
@@ -106,11 +106,10 @@ module _ (s : List ℕ) (v n : ℕ) (en : n ≡ length (digits s)) (ev : v ≡ m
 -- ---- what the scan has read
 ended-none : (d : List ℕ) → ended d ≡ true → digits d ≡ []
 ended-none [] e = digits-nil
-ended-none (b ∷ t) e = digits-no b t (space-no-digit b e)
+ended-none (b ∷ t) e = digits-no b t (class-is Space b e Digit)
 
-point-none : (s : List ℕ) (n : ℕ) → n < length s → getD s n 0 ≡ 46 → digits (drop n s) ≡ []
-unfolding classOf
-point-none s n g p = digits-stop s n g (ap (is Digit) p)
+point-none : (s : List ℕ) (n : ℕ) → n < length s → is Point (getD s n 0) ≡ true → digits (drop n s) ≡ []
+point-none s n g p = digits-stop s n g (class-is Point _ p Digit)
 
 module _ (s : List ℕ) (n v to : ℕ) (k : Scanned s 0 0 n v) (r : Room v n to) (some : n ≡ 0 → ⊥) where
   pub whole-read : ended (drop n s) ≡ true → (a : Number) → a ≡ meaning false v 0 0 → (n ≡ wordLen s) × (a ≡ numberOf (take n s))
@@ -118,7 +117,7 @@ module _ (s : List ℕ) (n v to : ℕ) (k : Scanned s 0 0 n v) (r : Room v n to)
       let z = ended-none (drop n s) e in
       plain-whole s v n (omega (arith, all-places k to r z)) (all-counted k to r z) some e a q
 
-  pub point-read : (p : getD s n 0 ≡ 46) (g : n < length s) (end x : ℕ) → Scanned s (n + 1) v end x → Room x end to → (end ≡ n + 1 → ⊥) → ended (drop end s) ≡ true
+  pub point-read : (p : is Point (getD s n 0) ≡ true) (g : n < length s) (end x : ℕ) → Scanned s (n + 1) v end x → Room x end to → (end ≡ n + 1 → ⊥) → ended (drop end s) ≡ true
       → (a : Number) → a ≡ meaning false x 0 (end - (n + 1)) → (end ≡ wordLen s) × (a ≡ numberOf (take end s))
   point-read p g end x f o more e a q =
       let z = point-none s n g p in
@@ -126,5 +125,6 @@ module _ (s : List ℕ) (n v to : ℕ) (k : Scanned s 0 0 n v) (r : Room v n to)
       let m : ℕ = end - (n + 1) in
       let c : n + 1 + m ≡ end = omega (arith, f .after) in
       let h : ended (drop m (drop (n + 1) s)) ≡ true = ap ended (drop-drop m (n + 1) s ∙ ap (λ (j : ℕ). drop j s) c) ∙ e in
-      let w = plain-point s v n (omega (arith, all-places k to r z)) (all-counted k to r z) some (drop (n + 1) s) refl p g x m (omega (arith, all-places f to o y)) (all-counted f to o y) (λ t. more (omega (arith, f .after))) h a q in
+      let w = plain-point s v n (omega (arith, all-places k to r z)) (all-counted k to r z) some (drop (n + 1) s) refl p g x m
+      (omega (arith, all-places f to o y)) (all-counted f to o y) (λ t. more (omega (arith, f .after))) h a q in
       subst (λ (j : ℕ). (j ≡ wordLen s) × (a ≡ numberOf (take j s))) c w

@@ -196,7 +196,8 @@ point-law minus w count s t v n e en ev h p =
     ∙ ap outcome (sym (point-yes minus w count s h p))
 
 -- where the digits after the point are all that is left
-pub point-only : (minus : Bool) (w count : ℕ) (s t : List ℕ) (v n : ℕ) → t ≡ drop 1 s → n ≡ length (digits t) → v ≡ min (value w (digits t)) cap → 0 < length s → is Point (getD s 0 0) ≡ true → 0 < n → n ≡ length t
+pub point-only : (minus : Bool) (w count : ℕ) (s t : List ℕ) (v n : ℕ) → t ≡ drop 1 s → n ≡ length (digits t) → v ≡ min (value w (digits t)) cap → 0 < length s
+    → is Point (getD s 0 0) ≡ true → 0 < n → n ≡ length t
     → meaning minus v 0 n ≡ outcome (point minus w count s)
 point-only minus w count s t v n e en ev h p some all =
     let none : length (take (length t - n) (drop n t)) ≡ 0 = omega (arith, ap length (tail-of t n), length-drop n t) in
@@ -208,7 +209,8 @@ unfolding point
 point-cap minus w count [] = ending-cap minus w count 0 []
 point-cap minus w count (b ∷ t) =
     let k = length (digits t) in
-    pick-cap (is Point b) (ending minus (value (min w cap) (digits t)) (count + k) k (after t)) (ending minus (min w cap) count 0 (b ∷ t)) (ending minus (value w (digits t)) (count + k) k (after t)) (ending minus w count 0 (b ∷ t))
+    pick-cap (is Point b) (ending minus (value (min w cap) (digits t)) (count + k) k (after t)) (ending minus (min w cap) count 0 (b ∷ t))
+    (ending minus (value w (digits t)) (count + k) k (after t)) (ending minus w count 0 (b ∷ t))
     (sym (ending-cap minus (value (min w cap) (digits t)) (count + k) k (after t))
     ∙ ap (λ (x : ℕ). outcome (ending minus x (count + k) k (after t))) (capped w (digits t))
     ∙ ending-cap minus (value w (digits t)) (count + k) k (after t))

@@ -67,7 +67,8 @@ module _ (num den : ℕ) (D : 0 < den) (l : num < limit * den) where
       let v : u ≡ den * (2 ^ 2044 * 2) = ap (λ (x : ℕ). den * 2 ^ x) e in
       let double : n * 2 < (2 ^ 54 - 1) * u =
       lt-of-lt-of-le (mul-lt-mul-of-pos-right in-units (zero-lt-suc 1))
-      (le-of-eq (ap (λ (x : ℕ). x * 2) (mul-assoc (2 ^ 54 - 1) (2 ^ 2044) den) ∙ mul-assoc (2 ^ 54 - 1) (2 ^ 2044 * den) 2 ∙ ap (λ (x : ℕ). (2 ^ 54 - 1) * x) (mul-right-comm (2 ^ 2044) den 2 ∙ mul-comm (2 ^ 2044 * 2) den ∙ sym v))) in
+      (le-of-eq (ap (λ (x : ℕ). x * 2) (mul-assoc (2 ^ 54 - 1) (2 ^ 2044) den) ∙ mul-assoc (2 ^ 54 - 1) (2 ^ 2044 * den) 2
+      ∙ ap (λ (x : ℕ). (2 ^ 54 - 1) * x) (mul-right-comm (2 ^ 2044) den 2 ∙ mul-comm (2 ^ 2044 * 2) den ∙ sym v))) in
       elim (le-or-lt (2 ^ 53) q) [
         | inl h ↦ absurd (below-top (q * u) u n double (closest-least n u (2 ^ 53 - 1) (step-pos 53 n den D)) (mul-le-mul-right u h))
         | inr h ↦ subst (λ (k : ℕ). q * 2 ^ k < 2 ^ 2098) (sym e) (mul-lt-mul-of-pos-right h (pow-pos 2045))
@@ -100,7 +101,8 @@ signed-inf false = refl
 infinite : (s : Bool) (num den : ℕ) → 0 < den → limit * den ≤ num → round binary64 s num den ≡ inf s
 infinite s num den D h =
     sym (signed-round s num den)
-    ∙ ap (signed s) (only-inf (round binary64 false num den) (subst (λ (x : Float). T (le x (round binary64 false num den))) at-limit (round-mono binary64 limit 1 num den (zero-lt-suc 0) D (le-trans h (le-of-eq (sym (mul-one num)))))))
+    ∙ ap (signed s) (only-inf (round binary64 false num den)
+    (subst (λ (x : Float). T (le x (round binary64 false num den))) at-limit (round-mono binary64 limit 1 num den (zero-lt-suc 0) D (le-trans h (le-of-eq (sym (mul-one num)))))))
     ∙ signed-inf s
 
 -- ---- the theorem

@@ -3,7 +3,9 @@ use mathlib.Core.Path.{_≡_, refl, sym, ap, _∙_, subst}
 use mathlib.Core.Logic.{_⊎_, inl, inr}
 use mathlib.Core.Bool.{Bool, true, false, not, _&&_, Bool·beq, cond}
 use Prim.Native.Nat.{ℕ, zero, suc, _+_, _-_, _*_, _/_, _%_, _^_, _≤_, _<_, compare}
-use native.Mathlib.Nat.{le-trans, le-of-eq, lt-of-le-of-lt, mul-comm, mul-assoc, mul-left-comm, mul-right-comm, mul-add, mul-one, zero-mul, mul-le-mul-left, mul-pos, le-of-mul-le-mul-left, eq-of-mul-eq-mul-left, eq-of-mul-eq-mul-right, div-mul-le-self, div-le-self, pow-suc, lt-irrefl, zero-lt-suc, le-add-left, div-div-eq-div-mul, not-le-of-lt}
+use native.Mathlib.Nat.{le-trans, le-of-eq, lt-of-le-of-lt, mul-comm, mul-assoc, mul-left-comm, mul-right-comm, mul-add, mul-one, zero-mul, mul-le-mul-left}
+use native.Mathlib.Nat.{mul-pos, le-of-mul-le-mul-left, eq-of-mul-eq-mul-left, eq-of-mul-eq-mul-right, div-mul-le-self, div-le-self, pow-suc, lt-irrefl}
+use native.Mathlib.Nat.{zero-lt-suc, le-add-left, div-div-eq-div-mul, not-le-of-lt}
 use native.Mathlib.Omega.{arith}
 use lib.IntN.{ℤ, pos, negsuc}
 use lib.Dec.{T, lit<, leb, ltb, eqb, leb→le, ltb→lt, lt→ltb, eqb→eq, nleb→lt}
@@ -30,7 +32,8 @@ shifted : (l n : ℕ) (d : ℤ) → down d ≤ 2 ^ l → (j : ℕ) × (n * up d 
 shifted l n (pos a) h = (a + l, mul-assoc n (2 ^ a) (2 ^ l) ∙ ap (λ (x : ℕ). n * x) (sym (pow-add 2 a l)) ∙ sym (mul-one (n * 2 ^ (a + l))))
 shifted l n (negsuc a) h = (
   l - suc a,
-  ap (λ (x : ℕ). x * 2 ^ l) (mul-one n) ∙ ap (λ (x : ℕ). n * x) (ap (λ (x : ℕ). 2 ^ x) (sym (back l (suc a) (pow-le (suc a) l h))) ∙ pow-add 2 (l - suc a) (suc a)) ∙ sym (mul-assoc n (2 ^ (l - suc a)) (2 ^ suc a)),
+  ap (λ (x : ℕ). x * 2 ^ l) (mul-one n) ∙ ap (λ (x : ℕ). n * x)
+      (ap (λ (x : ℕ). 2 ^ x) (sym (back l (suc a) (pow-le (suc a) l h))) ∙ pow-add 2 (l - suc a) (suc a)) ∙ sym (mul-assoc n (2 ^ (l - suc a)) (2 ^ suc a)),
 )
 
 pub in-units : (f : Format) (u : Bool) (n : ℕ) (d : ℤ) → T (fits f (fin u n d)) → InUnits f n d
@@ -231,7 +234,8 @@ module _ (f : Format) (s : Bool) (num den : ℕ) (D : 0 < den) (m : ℕ) (e : �
             closest-tie N (step (prec f) N den) 0 (step-pos (prec f) N den D)
             (ap (λ (x : ℕ). gap x N) in-steps ∙ w .0 ∙ sym (ap (λ (x : ℕ). gap x N) (zero-mul (step (prec f) N den)) ∙ gap-zero N))
             (λ (g : kept (prec f) N den ≡ 0). apart-zeros s u (m * up e * down d) (n * up d * down e) o
-            (none (m * up e) (2 ^ low f) (down d) (pow-pos (low f)) (v ∙ ap (λ (x : ℕ). x * 2 ^ drop (prec f) N den * down e) g ∙ ap (λ (x : ℕ). x * down e) (zero-mul (2 ^ drop (prec f) N den)) ∙ zero-mul (down e)))
+            (none (m * up e) (2 ^ low f) (down d) (pow-pos (low f))
+            (v ∙ ap (λ (x : ℕ). x * 2 ^ drop (prec f) N den * down e) g ∙ ap (λ (x : ℕ). x * down e) (zero-mul (2 ^ drop (prec f) N den)) ∙ zero-mul (down e)))
             (none (n * up d) (2 ^ low f) (down e) (pow-pos (low f)) (i .1 .1 ∙ none (n * 2 ^ j) den (down d) D (w .1))))
       ]
 

@@ -4,7 +4,9 @@ use mathlib.Core.Path.{_≡_, refl, sym, ap, _∙_, subst}
 use mathlib.Core.Logic.{inl, inr}
 use mathlib.Core.Bool.{Bool, true, false, _&&_, cond}
 use Prim.Native.Nat.{ℕ, zero, suc, _+_, _-_, _*_, _/_, _%_, _^_, _≤_, _<_}
-use native.Mathlib.Nat.{le-trans, le-of-eq, le-of-lt, lt-of-lt-of-le, lt-of-le-of-lt, lt-trans, mul-comm, mul-assoc, mul-right-comm, add-mul, suc-mul, mul-one, one-mul, zero-mul, mul-le-mul-right, mul-le-mul-left, mul-lt-mul-of-pos-right, mul-pos, le-of-mul-le-mul-left, lt-of-mul-lt-mul-right, eq-of-mul-eq-mul-right, eq-or-lt-of-le, le-antisymm, mul-div-cancel, pow-suc, lt-irrefl}
+use native.Mathlib.Nat.{le-trans, le-of-eq, le-of-lt, lt-of-lt-of-le, lt-of-le-of-lt, lt-trans, mul-comm, mul-assoc, mul-right-comm, add-mul, suc-mul, mul-one}
+use native.Mathlib.Nat.{one-mul, zero-mul, mul-le-mul-right, mul-le-mul-left, mul-lt-mul-of-pos-right, mul-pos, le-of-mul-le-mul-left, lt-of-mul-lt-mul-right}
+use native.Mathlib.Nat.{eq-of-mul-eq-mul-right, eq-or-lt-of-le, le-antisymm, mul-div-cancel, pow-suc, lt-irrefl}
 use native.Mathlib.Omega.{arith}
 use lib.IntN.{ℤ, pos, negsuc}
 use lib.Dec.{T, lit<, leb, ltb, eqb, ltb→lt}
@@ -31,7 +33,8 @@ halves n (pos a) h = (a + 1073, mul-assoc n (2 ^ a) (2 ^ 1074) ∙ ap (λ (x : �
 halves n (negsuc a) h =
     let l : suc a < 1074 = strict (suc a) h in (
       1074 - suc (suc a),
-      ap (λ (x : ℕ). x * 2 ^ 1074) (mul-one n) ∙ ap (λ (x : ℕ). n * x) (ap (λ (x : ℕ). 2 ^ x) (sym (refill a l)) ∙ pow-add 2 (suc (1074 - suc (suc a))) (suc a)) ∙ sym (mul-assoc n (2 ^ suc (1074 - suc (suc a))) (2 ^ suc a)),
+      ap (λ (x : ℕ). x * 2 ^ 1074) (mul-one n) ∙ ap (λ (x : ℕ). n * x) (ap (λ (x : ℕ). 2 ^ x) (sym (refill a l)) ∙ pow-add 2 (suc (1074 - suc (suc a))) (suc a))
+          ∙ sym (mul-assoc n (2 ^ suc (1074 - suc (suc a))) (2 ^ suc a)),
     )
   where
     strict : (k : ℕ) → 2 ^ k < 2 ^ 1074 → k < 1074
@@ -187,7 +190,8 @@ module _ (s : Bool) (num den : ℕ) (D : 0 < den) where
       let other : A ≡ B → ⊥ = λ q. lt-irrefl Y (subst (λ (c : ℕ). c < Y) (units q) h) in
       let E = v .tie s n d g (subst (λ (c : ℕ). 0 < c) (sym (same-sign s A B)) (gap-pos A B other)) same in
       let F = w .tie s m e f (subst (λ (c : ℕ). 0 < c) (sym (same-sign s B A)) (gap-pos B A (λ q. other (sym q)))) (sym same) in
-      let level : apart s (X * den) s N ≡ apart s (Y * den) s N = same-of (2 ^ 1074) (down e) (down d) (off s num den s m e) (off s num den s n d) (apart s (X * den) s N) (apart s (Y * den) s N) (down-pos e) (down-pos d)
+      let level : apart s (X * den) s N ≡ apart s (Y * den) s N =
+      same-of (2 ^ 1074) (down e) (down d) (off s num den s m e) (off s num den s n d) (apart s (X * den) s N) (apart s (Y * den) s N) (down-pos e) (down-pos d)
       (off-units s num den s m e (2 ^ 1074) X x) (off-units s num den s n d (2 ^ 1074) Y y) same in
       two-even den N X Y D (below s n d Y g y) (sym (same-sign s (X * den) N) ∙ level ∙ same-sign s (Y * den) N) (least-of-nearest m e X v x) h (even-units m e X E x) (even-units n d Y F y)
 

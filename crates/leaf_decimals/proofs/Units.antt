@@ -34,12 +34,14 @@ place p n den m j P D h =
       | inl l ↦ inl (
         m * 2 ^ (j - k),
         mul-assoc m (2 ^ (j - k)) (den * 2 ^ k)
-            ∙ ap (λ (x : ℕ). m * x) (ap (λ (x : ℕ). 2 ^ (j - k) * x) (mul-comm den (2 ^ k)) ∙ sym (mul-assoc (2 ^ (j - k)) (2 ^ k) den) ∙ ap (λ (x : ℕ). x * den) (sym (pow-add 2 (j - k) k) ∙ ap (λ (x : ℕ). 2 ^ x) (back j k l)))
+            ∙ ap (λ (x : ℕ). m * x) (ap (λ (x : ℕ). 2 ^ (j - k) * x) (mul-comm den (2 ^ k)) ∙ sym (mul-assoc (2 ^ (j - k)) (2 ^ k) den)
+            ∙ ap (λ (x : ℕ). x * den) (sym (pow-add 2 (j - k) k) ∙ ap (λ (x : ℕ). 2 ^ x) (back j k l)))
             ∙ sym (mul-assoc m (2 ^ j) den),
       )
       | inr l ↦
           let z = size (n / den) in
-          let e : 2 ^ (p - 1 + k) * den ≡ 2 ^ (p - 1) * (den * 2 ^ k) = ap (λ (x : ℕ). x * den) (pow-add 2 (p - 1) k) ∙ mul-assoc (2 ^ (p - 1)) (2 ^ k) den ∙ ap (λ (x : ℕ). 2 ^ (p - 1) * x) (mul-comm (2 ^ k) den) in
+          let e : 2 ^ (p - 1 + k) * den ≡ 2 ^ (p - 1) * (den * 2 ^ k) =
+          ap (λ (x : ℕ). x * den) (pow-add 2 (p - 1) k) ∙ mul-assoc (2 ^ (p - 1)) (2 ^ k) den ∙ ap (λ (x : ℕ). 2 ^ (p - 1) * x) (mul-comm (2 ^ k) den) in
           inr (
             lt-of-lt-of-le (mul-lt-mul-of-pos-right (lt-of-lt-of-le (shl-lt p j h) (pow-mono (room p j k P l))) D) (le-of-eq e),
             le-trans (le-of-eq (sym e)) (le-div-iff-mul-le D .0 (size-reaches (n / den) (p - 1 + k) (all-in-use z p P (lt-of-le-of-lt zero-le l)))),

@@ -4,7 +4,8 @@ use mathlib.Core.List.{List}
 use mathlib.Core.Logic.{_⊎_, inl, inr}
 use mathlib.Core.Bool.{Bool, true, false, not, cond, _&&_, _||_}
 use Prim.Native.Nat.{ℕ, zero, suc, _+_, _-_, _*_, _^_, _≤_, _<_}
-use native.Mathlib.Nat.{le-of-eq, lt-of-lt-of-le, lt-of-le-of-lt, zero-lt-suc, mul-comm, mul-assoc, mul-mul-mul-comm, mul-one, zero-mul, mul-pos, mul-le-mul, mul-lt-mul-of-pos-right, pow-suc, pow-le-pow-right, eq-zero-or-pos}
+use native.Mathlib.Nat.{le-of-eq, lt-of-lt-of-le, lt-of-le-of-lt, zero-lt-suc, mul-comm, mul-assoc, mul-mul-mul-comm, mul-one, zero-mul, mul-pos, mul-le-mul}
+use native.Mathlib.Nat.{mul-lt-mul-of-pos-right, pow-suc, pow-le-pow-right, eq-zero-or-pos}
 use native.Mathlib.Omega.{arith}
 use lib.IntN.{pos}
 use lib.Dec.{T, leb, ltb, eqb, ltb→lt, lit<, leb→le}
@@ -62,7 +63,8 @@ div-at f x y a c b d A B C h k =
 -- ---- the operands are exact
 tens-split : (k : ℕ) → 10 ^ k ≡ 5 ^ k * 2 ^ k
 tens-split zero = refl
-tens-split (suc k) = pow-suc 10 k ∙ ap (λ (x : ℕ). x * 10) (tens-split k) ∙ mul-mul-mul-comm (5 ^ k) (2 ^ k) 5 2 ∙ sym (ap (λ (x : ℕ). x * 2 ^ suc k) (pow-suc 5 k) ∙ ap (λ (x : ℕ). 5 ^ k * 5 * x) (pow-suc 2 k))
+tens-split (suc k) = pow-suc 10 k ∙ ap (λ (x : ℕ). x * 10) (tens-split k) ∙ mul-mul-mul-comm (5 ^ k) (2 ^ k) 5 2
+    ∙ sym (ap (λ (x : ℕ). x * 2 ^ suc k) (pow-suc 5 k) ∙ ap (λ (x : ℕ). 5 ^ k * 5 * x) (pow-suc 2 k))
 
 ten-value : (k : ℕ) → k ≤ 22 → HasValue (ten k) false (10 ^ k) 1
 unfolding ofInt
@@ -71,7 +73,8 @@ ten-value k h =
     let room : 53 + (k + low binary64) ≤ low binary64 + suc (emax binary64) = omega arith in
     round-exact binary64 false (10 ^ k) 1 (5 ^ k) (k + low binary64) (zero-lt-suc 0) small
     (lt-of-lt-of-le (shl-lt 53 (k + low binary64) small) (pow-mono room))
-    (ap (λ (x : ℕ). x * 2 ^ low binary64) (tens-split k) ∙ mul-assoc (5 ^ k) (2 ^ k) (2 ^ low binary64) ∙ ap (λ (x : ℕ). 5 ^ k * x) (sym (pow-add 2 k (low binary64))) ∙ sym (mul-one (5 ^ k * 2 ^ (k + low binary64))))
+    (ap (λ (x : ℕ). x * 2 ^ low binary64) (tens-split k) ∙ mul-assoc (5 ^ k) (2 ^ k) (2 ^ low binary64)
+    ∙ ap (λ (x : ℕ). 5 ^ k * x) (sym (pow-add 2 k (low binary64))) ∙ sym (mul-one (5 ^ k * 2 ^ (k + low binary64))))
 
 whole-value : (w : ℕ) → w ≤ 2 ^ 53 → HasValue (ofInt binary64 (pos w)) false w 1
 unfolding ofInt
@@ -102,14 +105,16 @@ module _ (minus : Bool) (w up down : ℕ) (W : 0 < w) (l : w ≤ 2 ^ 53) where
       let vt = ten-value (up - down) k in
       let small : w * t < limit = lt-of-le-of-lt (mul-le-mul l (pow-le-pow-right {n = 10} (zero-lt-suc 9) k)) (lit< tt) in
       rounded-nearest (lt-of-le-of-lt (le-of-eq (sym e)) (mul-lt-mul-of-pos-right small (ten-pos down))) (mul binary64 (ofInt binary64 (pos w)) (ten (up - down)))
-      (mul-at binary64 (ofInt binary64 (pos w)) (ten (up - down)) w 1 t 1 (positive-of-value (ofInt binary64 (pos w)) w 1 vw W) (positive-of-value (ten (up - down)) t 1 vt (ten-pos (up - down))) (zero-lt-suc 0) (zero-lt-suc 0) vw vt
+      (mul-at binary64 (ofInt binary64 (pos w)) (ten (up - down)) w 1 t 1 (positive-of-value (ofInt binary64 (pos w)) w 1 vw W)
+      (positive-of-value (ten (up - down)) t 1 vt (ten-pos (up - down))) (zero-lt-suc 0) (zero-lt-suc 0) vw vt
       ∙ round-same binary64 false (w * t) (1 * 1) (w * 10 ^ up) (10 ^ down) (zero-lt-suc 0) (ten-pos down) (e ∙ sym (mul-one (w * 10 ^ up))))
 
   pub nearest-div : up ≤ down → down - up ≤ 22 → IsNearest minus (w * 10 ^ up) (10 ^ down) (signed minus (div binary64 (ofInt binary64 (pos w)) (ten (down - up))))
   nearest-div h k =
       let t = 10 ^ (down - up) in
       let e : w * 1 * 10 ^ down ≡ w * 10 ^ up * (t * 1) =
-      ap (λ (x : ℕ). x * 10 ^ down) (mul-one w) ∙ ap (λ (x : ℕ). w * x) (sym (tens-join down up h) ∙ mul-comm t (10 ^ up)) ∙ sym (mul-assoc w (10 ^ up) t) ∙ ap (λ (x : ℕ). w * 10 ^ up * x) (sym (mul-one t)) in
+      ap (λ (x : ℕ). x * 10 ^ down) (mul-one w) ∙ ap (λ (x : ℕ). w * x) (sym (tens-join down up h) ∙ mul-comm t (10 ^ up)) ∙ sym (mul-assoc w (10 ^ up) t)
+      ∙ ap (λ (x : ℕ). w * 10 ^ up * x) (sym (mul-one t)) in
       let small : w * 10 ^ up < limit * 10 ^ down =
       lt-of-le-of-lt (mul-le-mul l (pow-le-pow-right {n = 10} (zero-lt-suc 9) h)) (mul-lt-mul-of-pos-right (lit< {m = 2 ^ 53} {n = limit} tt) (ten-pos down)) in
       rounded-nearest small (div binary64 (ofInt binary64 (pos w)) (ten (down - up)))

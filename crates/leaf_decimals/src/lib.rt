@@ -141,7 +141,7 @@ fn read_exponent(minus: bool, w: u64, frac: usize, s: &[u8]) -> Number
     }
     let b = s[0];
     match leaf_digits::class_of(b) {
-        Class::Sign => read_power(minus, w, frac, b == 45, &s[1..]),
+        Class::Sign => read_power(minus, w, frac, b == b'-', &s[1..]),
         _ => read_power(minus, w, frac, false, s),
     }
 }
@@ -225,7 +225,7 @@ pub fn read_number(s: &[u8]) -> Number
     }
     let b = s[0];
     match leaf_digits::class_of(b) {
-        Class::Sign => read_unsigned(b == 45, &s[1..]),
+        Class::Sign => read_unsigned(b == b'-', &s[1..]),
         _ => read_unsigned(false, s),
     }
 }
@@ -259,9 +259,10 @@ pub fn plain_number(s: &[u8]) -> Plain
     if leaf_digits::ends_at(s, n) {
         return Plain::Is(valued(false, v, 0, 0), n);
     }
-    if s[n] != 46 {
+    let k = leaf_digits::class_of(s[n]);
+    let Class::Point = k else {
         return Plain::Other;
-    }
+    };
     let i = n + 1;
     let f = leaf_digits::few_digits(s, i, to, v);
     let e = f.end;

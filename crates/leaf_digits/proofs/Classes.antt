@@ -26,6 +26,10 @@ tag-rank Other = refl
 pub is-class : (d : Class) (b : ℕ) {k : Class} → k ≡ classOf b → k ≡ d → is d b ≡ true
 is-class d b e q = eq-eqb (rank (classOf b)) (rank d) (ap rank (sym e ∙ q))
 
+-- a byte of the class k is of no other
+pub class-is : (k : Class) (b : ℕ) → is k b ≡ true → (d : Class) → is d b ≡ eqb (rank k) (rank d)
+class-is k b e d = ap (λ (n : ℕ). eqb n (rank d)) (eqb-true (rank (classOf b)) (rank k) e)
+
 -- it is one of others
 pub not-class : (d : Class) (b : ℕ) (k : Class) (ks : List ℕ) → k ≡ classOf b → OneOf ks (tagOf the-type k) → T (not (hasKey ks (rank d))) → is d b ≡ false
 not-class d b k ks e h t = ne-eqb (rank (classOf b)) (rank d) (λ q. miss ks (rank d) t (subst (λ (n : ℕ). OneOf ks n) (tag-rank k ∙ ap rank e ∙ q) h))
@@ -51,10 +55,6 @@ to-digit Point e = cc
 to-digit Exponent e = cc
 to-digit Other e = cc
 
--- of what class a digit is
-pub digit-is : (b : ℕ) → is Digit b ≡ true → (d : Class) → is d b ≡ eqb 1 (rank d)
-digit-is b e d = ap (λ (k : Class). eqb (rank k) (rank d)) (to-digit (classOf b) e)
-
 pub digit-range : (b : ℕ) → is Digit b ≡ true → (48 ≤ b) × (b ≤ 57)
 unfolding classOf
 digit-range b e =
@@ -69,7 +69,7 @@ no-digit b n = go (is Digit b) refl
     go true e = absurd (n (digit-range b e))
     go false e = e
 
--- ---- whitespace: no byte above 32, and no digit
+-- ---- whitespace: no byte above 32
 above : (d g p x : Bool) → eqb (rank (cond d Digit (cond g Sign (cond p Point (cond x Exponent Other))))) 0 ≡ false
 above true g p x = refl
 above false true p x = refl
@@ -82,6 +82,3 @@ unfolding classOf
 above-space b h =
     rw (le-leb 9 b (omega arith), lt-leb b 13 (omega arith), ne-eqb b 32 (λ e. omega arith))
     (above (leb 48 b && leb b 57) (eqb b 43 || eqb b 45) (eqb b 46) (eqb b 69 || eqb b 101))
-
-pub space-no-digit : (b : ℕ) → is Space b ≡ true → is Digit b ≡ false
-space-no-digit b e = ap (λ (n : ℕ). eqb n 1) (eqb-true (rank (classOf b)) 0 e)

@@ -10,7 +10,7 @@ use Rattle.leaf_digits.specs.declared.Class.the-variants.{Space, Digit}
 use Rattle.leaf_digits.specs.Bytes.{is}
 use Rattle.leaf_digits.specs.Digits.{digits}
 use Rattle.leaf_digits.specs.Ends.{wordLen, ended}
-use Rattle.leaf_digits.proofs.Classes.{digit-is}
+use Rattle.leaf_digits.proofs.Classes.{class-is}
 use Rattle.leaf_digits.proofs.Digits.{digits-yes, digits-no, digits-nil}
 
 pub ended-off : (s : List ℕ) (i : ℕ) → length s ≤ i → true ≡ ended (drop i s)
@@ -41,5 +41,5 @@ word-digits (b ∷ t) = go (is Digit b) refl (word-digits t)
   where
     go : (x : Bool) → is Digit b ≡ x → wordLen t ≡ length (digits t) + wordLen (drop (length (digits t)) t)
         → wordLen (b ∷ t) ≡ length (digits (b ∷ t)) + wordLen (drop (length (digits (b ∷ t))) (b ∷ t))
-    go true e h = rw (digits-yes b t e, word-on b t (digit-is b e Space)) (omega (arith, h))
+    go true e h = rw (digits-yes b t e, word-on b t (class-is Digit b e Space)) (omega (arith, h))
     go false e h = rw (digits-no b t e) (omega arith)

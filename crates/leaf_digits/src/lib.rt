@@ -25,10 +25,10 @@ pub fn class_of(b: u8) -> Class
 {
     match b {
         9..=13 | 32 => Class::Space,
-        48..=57 => Class::Digit,
-        43 | 45 => Class::Sign,
-        46 => Class::Point,
-        69 | 101 => Class::Exponent,
+        b'0'..=b'9' => Class::Digit,
+        b'+' | b'-' => Class::Sign,
+        b'.' => Class::Point,
+        b'E' | b'e' => Class::Exponent,
         _ => Class::Other,
     }
 }
@@ -37,10 +37,10 @@ pub fn class_of(b: u8) -> Class
 pub fn is_digit(b: u8) -> bool
     ensures { λ r. ⌜ r ≡ is Class.Digit b ⌝ }
 {
-    if b < 48 {
+    if b < b'0' {
         return false;
     }
-    if b > 57 {
+    if b > b'9' {
         return false;
     }
     match class_of(b) {
@@ -49,12 +49,12 @@ pub fn is_digit(b: u8) -> bool
     }
 }
 
-// What a digit counts. The byte less 48 is what `is_digit` compares, so that the compiler has it already.
+// What a digit counts. The byte less that of 0 is what `is_digit` compares, so that the compiler has it already.
 pub fn digit_value(b: u8) -> u64
     requires { ⌜ (48 ≤ b) × (b ≤ 57) ⌝ }
     ensures { λ r. ⌜ r ≡ b - 48 ⌝ }
 {
-    (b - 48) as u64
+    (b - b'0') as u64
 }
 
 // A letter in lower case.
@@ -62,7 +62,7 @@ pub fn lowered(b: u8) -> u8
     ensures { λ r. ⌜ r ≡ lower b ⌝ }
 {
     match b {
-        65..=90 => b + 32,
+        b'A'..=b'Z' => b + 32,
         _ => b,
     }
 }
@@ -75,7 +75,7 @@ pub fn ends_at(s: &[u8], i: usize) -> bool
 {
     if i < s.len() {
         let b = s[i];
-        if 32 < b {
+        if b' ' < b {
             return false;
         }
         return match class_of(b) {

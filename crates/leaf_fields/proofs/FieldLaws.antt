@@ -4,7 +4,7 @@ use Prim.Native.Nat.{ℕ, zero, suc, _+_, _-_, _≤_, _<_}
 use native.Mathlib.Omega.{arith}
 use native.Mathlib.Nat.{add-zero, suc-sub-suc, sub-zero, zero-sub}
 use native.Mathlib.Numerals.{add-one}
-use mathlib.Core.Path.{_≡_, refl, sym, ap, ap₂, _∙_, subst}
+use mathlib.Core.Path.{_≡_, refl, sym, ap, _∙_, subst}
 use mathlib.Core.Bool.{Bool, true, false, cond, not}
 use mathlib.Core.List.{List, [], _∷_, map}
 use lib.ListN.{length, take, drop, getD, length-drop, length-take, drop-of-length-le}
@@ -13,13 +13,13 @@ use Rattle.leaf_digits.specs.Ends.{wordLen}
 use Rattle.leaf_scans.specs.Lines.{isSpace, cutOf}
 use Rattle.leaf_scans.specs.Scan.{spanLen}
 use Rattle.leaf_scans.specs.declared.Kind.the-variants.{Space, Word}
-use Rattle.leaf_fields.specs.Fields.{Name, part, nameIn, onFirst, before, fieldsOf, fieldsAt, startAt, rest, endOr, Fits, Next, Past}
+use Rattle.leaf_fields.specs.Fields.{Name, part, nameIn, onFirst, before, fieldsOf, fieldsAt, startAt, rest, endOr, Fits, Next, Past, optIn, MayFit}
 use Rattle.leaf_fields.specs.declared.Span.{Span}
 use Rattle.leaf_fields.specs.declared.Field.{Field}
 use Rattle.leaf_fields.specs.declared.Field.the-variants.{Taken, Nothing}
 use Rattle.leaf_scans.proofs.ScanLaws.{span-le, span-stop}
 use Rattle.leaf_scans.proofs.LineLaws.{cut-prefix}
-pub use Rattle.leaf_scans.proofs.ScanLaws.{length-part, drop-take}
+pub use Rattle.leaf_words.proofs.ScanLaws.{length-part, drop-take}
 
 -- whitespace before the fields is passed over
 pub fields-skip : (at : ℕ) (l : List ℕ) → fieldsOf at l ≡ fieldsOf (at + spanLen Space l) (drop (spanLen Space l) l)
@@ -160,22 +160,28 @@ module _ (l : List ℕ) (at : ℕ) (f : Field) (n : Next l at f) where
   pub past-nothing : f ≡ Nothing → Past l at at
   past-nothing e = let h = n .nothing e in record { place = sym (ap (endOr at) h); left = h ∙ sym (ap rest h) }
 
+-- ---- no second span or field fits
+-- a span that lies in l is told by the name that it is; so is a field that may be missing
+pub span-once : (l : List ℕ) {s t : Span} → Fits l s → Fits l t → nameIn l s ≡ nameIn l t → s ≡ t
+span-once l {s} {t} k j q =
+    let e : s .end ≡ t .end =
+    omega (arith, ap Name.at q, ap (λ (n : Name). length (n .letters)) q, length-part (s .at) (s .end) l (k .inside), length-part (t .at) (t .end) l (j .inside), k .some, j .some) in
+    λ i. record { at = q i .at; end = e i }
+
+pub opt-once : (l : List ℕ) (f g : Field) → MayFit l f → MayFit l g → optIn l f ≡ optIn l g → f ≡ g
+opt-once l (Taken s) (Taken t) k j q = ap Taken (span-once l k j (cc))
+opt-once l (Taken s) Nothing k j q = cc
+opt-once l Nothing (Taken t) k j q = cc
+opt-once l Nothing Nothing k j q = refl
+
 -- the next field is told in full
 pub next-unique : (l : List ℕ) (at : ℕ) (f g : Field) → Next l at f → Next l at g → f ≡ g
 next-unique l at (Taken s) (Taken t) n m =
     let (h, k) = n .taken s refl in
     let (i, j) = m .taken t refl in
-    let q : nameIn l s ∷ fieldsAt l (s .end) ≡ nameIn l t ∷ fieldsAt l (t .end) = sym h ∙ i in
-    let a : s .at ≡ t .at = ap firstAt q in
-    let e : s .end ≡ t .end =
-    omega (arith, ap (endOr 0) q, length-part (s .at) (s .end) l (k .inside), length-part (t .at) (t .end) l (j .inside), k .some, j .some) in
-    ap₂ (λ x y. Taken (record { at = x; end = y })) a e
-  where
-    firstAt : List Name → ℕ
-    firstAt [] = 0
-    firstAt (x ∷ xs) = x .at
-next-unique l at (Taken s) Nothing n m = let q = sym (n .taken s refl .0) ∙ m .nothing refl in let z : _≡_ {A = ℕ} 0 1 = cc in absurd (omega arith)
-next-unique l at Nothing (Taken t) n m = let q = sym (n .nothing refl) ∙ m .taken t refl .0 in let z : _≡_ {A = ℕ} 0 1 = cc in absurd (omega arith)
+    ap Taken (span-once l k j (cc))
+next-unique l at (Taken s) Nothing n m = cc (n .taken s refl .0, m .nothing refl)
+next-unique l at Nothing (Taken t) n m = cc (n .nothing refl, m .taken t refl .0)
 next-unique l at Nothing Nothing n m = refl
 
 -- ---- where fields stand

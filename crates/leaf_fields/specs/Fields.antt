@@ -8,7 +8,7 @@ use lib.ListN.{length, drop}
 use Rattle.leaf_scans.specs.Lines.{isSpace}
 use Rattle.leaf_scans.specs.Scan.{spanLen}
 use Rattle.leaf_scans.specs.declared.Kind.the-variants.{Space}
-pub use Rattle.leaf_scans.specs.Scan.{part}
+pub use Rattle.leaf_words.specs.Scan.{part}
 use Rattle.leaf_fields.specs.declared.Span.{Span}
 use Rattle.leaf_fields.specs.declared.Field.{Field}
 use Rattle.leaf_fields.specs.declared.Field.the-variants.{Taken, Nothing}

@@ -40,7 +40,7 @@ fn raise(b: u8) -> u8
     ensures { λ r. ⌜ r ≡ raised b ⌝ }
 {
     match b {
-        97..=122 => b - 32,
+        b'a'..=b'z' => b - 32,
         _ => b,
     }
 }

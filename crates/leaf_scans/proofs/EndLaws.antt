@@ -10,8 +10,8 @@ use lib.ListN.{length, take, drop, getD, length-drop, drop-of-length-le}
 use lib.Seq.{drop-cons, drop-drop, getD-drop}
 use lib.Dec.{eqb}
 use Rattle.leaf_scans.specs.Lines.{lineLen, cutOf}
-use Rattle.leaf_scans.specs.Scan.{either, clearLen}
-use Rattle.leaf_scans.proofs.ScanLaws.{drop-take, clear-stop}
+use Rattle.leaf_words.specs.Scan.{either, clearLen}
+use Rattle.leaf_words.proofs.ScanLaws.{drop-take, clear-stop}
 
 -- neither the cut nor the end stands before the first of the two bytes
 line-pass : (l : List ℕ) → lineLen l ≡ clearLen 59 10 l + lineLen (drop (clearLen 59 10 l) l)

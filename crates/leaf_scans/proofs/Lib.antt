@@ -1,8 +1,5 @@
 -- What the proofs of several functions use, here and in the crates that link this one.
 pub mod ScanLaws
-pub mod WordLaws
-pub mod HitLaws
-pub mod MarkLaws
 pub mod LineLaws
 pub mod EndLaws
 pub mod TrimLaws

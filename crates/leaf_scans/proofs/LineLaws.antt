@@ -7,10 +7,10 @@ use mathlib.Core.List.{List, [], _∷_, _++_}
 use lib.ListN.{length, take, drop, getD, length-drop, drop-of-length-le}
 use lib.Seq.{drop-cons, drop-drop, length-take-le, take-all, take-suc, getD-drop}
 use lib.Dec.{eqb}
-use Rattle.leaf_scans.specs.Lines.{isSpace, push, chunks, joined, lineLen, startTrimmed, keepByte, endTrimmed, trimmed, kindBy, lineKind, cutOf}
-use Rattle.leaf_scans.specs.Scan.{spanLen, clearLen}
+use Rattle.leaf_scans.specs.Lines.{blank, isSpace, push, chunks, joined, lineLen, startTrimmed, keepByte, endTrimmed, trimmed, kindBy, lineKind, cutOf}
+use Rattle.leaf_scans.specs.Scan.{spanLen}
+use Rattle.leaf_words.specs.Scan.{clearLen}
 use Rattle.leaf_scans.specs.declared.Kind.the-variants.{Space}
-use Rattle.leaf_scans.specs.declared.LineKind.the-variants.{Blank}
 use Rattle.leaf_scans.proofs.ScanLaws.{span-stop}
 
 -- ---- the first line of a text
@@ -201,7 +201,7 @@ module _ (l : List ℕ) (at i : ℕ) (es : i ≡ at + spanLen Space (drop at l))
       let ns : isSpace b ≡ false = rw (es, ← getD-drop at l (spanLen Space (drop at l)) 0) (span-stop Space (drop at l) (omega arith)) in
       kind-kept b (endTrimmed (drop (suc i) l)) ns ∙ sym (ap (λ x. kindBy (endTrimmed x)) (start-at ∙ drop-cons l i 0 h))
 
-  pub kind-none : length l ≤ i → Blank ≡ lineKind (drop at l)
+  pub kind-none : length l ≤ i → blank ≡ lineKind (drop at l)
   unfolding lineKind trimmed endTrimmed
   kind-none h = sym (ap (λ x. kindBy (endTrimmed x)) (start-at ∙ drop-of-length-le l h))
 

@@ -5,8 +5,6 @@ use mathlib.Core.List.{List, [], _∷_, _++_}
 use lib.Dec.{eqb}
 use Rattle.leaf_digits.specs.Bytes.{is}
 use Rattle.leaf_digits.specs.declared.Class.the-variants.{Space}
-use Rattle.leaf_scans.specs.declared.LineKind.{LineKind}
-use Rattle.leaf_scans.specs.declared.LineKind.the-variants.{Blank, Header, Other}
 
 -- "Whitespace is the six bytes 9 to 13 and 32."
 abbrev pub isSpace : ℕ → Bool
@@ -52,9 +50,12 @@ unfoldable pub trimmed : List ℕ → List ℕ
 trimmed l = endTrimmed (startTrimmed l)
 
 -- ---- "Empty, or starting with `;`: blank. Starting with `[`: a header."
+pub data LineKind : Type 0 where
+  blank header other : LineKind
+
 abbrev pub kindBy : List ℕ → LineKind
-kindBy [] = Blank
-kindBy (b ∷ bs) = cond (eqb b 59) Blank (cond (eqb b 91) Header Other)
+kindBy [] = blank
+kindBy (b ∷ bs) = cond (eqb b 59) blank (cond (eqb b 91) header other)
 
 -- what a line is, as it stands in the text
 unfoldable pub lineKind : List ℕ → LineKind

@@ -10,9 +10,6 @@ use borrow.Author.Needs.{needs}
 use Rattle.leaf_clock.proofs.before_colon.Statement.{statement}
 use Rattle.leaf_clock.proofs.before_colon.Tie as tie
 
-colon-at-requires : tie.Need-colon-at-requires
-colon-at-requires c κs = search needs
-
 slice-aggregate-result : tie.Need-slice-aggregate-result
 slice-aggregate-result c = start-length (now (c .before .before .before .args .s)) _ (omega (arith, c .before .colon-at .ensures, colon-le (now (c .before .before .before .args .s))))
 
@@ -20,4 +17,4 @@ returns : tie.Need-returns
 returns c = ap (λ (n : ℕ). take n (now (c .before .before .before .args .s))) (c .before .colon-at .ensures)
 
 pub before-colon-spec : {M : Type 1} → statement M
-before-colon-spec = tie.close (tie.spec colon-at-requires slice-aggregate-result returns)
+before-colon-spec = tie.close (tie.spec (search needs) slice-aggregate-result returns)

@@ -10,14 +10,8 @@ use Rattle.leaf_clock.proofs.unit_of.Tie as tie
 returns : tie.Need-returns
 returns c = unit-absent (now (c .before .before .args .unit)) (c .if1 .taken)
 
-without-s-requires : tie.Need-without-s-requires
-without-s-requires c κs = search needs
-
-named-requires : tie.Need-named-requires
-named-requires c κs = search needs
-
 returns-2 : tie.Need-returns-2
 returns-2 c = c .named .ensures ∙ ap (named unitWords) (c .before .without-s .ensures) ∙ unit-named (now (c .before .before .before .before .args .unit)) (c .before .before .if1 .left)
 
 pub unit-of-spec : {M : Type 1} → statement M
-unit-of-spec = tie.close (tie.spec returns without-s-requires named-requires returns-2)
+unit-of-spec = tie.close (tie.spec returns (search needs) (search needs) returns-2)

@@ -16,42 +16,19 @@ use Rattle.leaf_decimals.proofs.read_ending.Tie as tie
 returns : tie.Need-returns
 returns c = ap outcome (sym (ending-none _ _ _ _ _ (c .if1 .taken)))
 
-valued-requires : tie.Need-valued-requires
-valued-requires c κs = search needs
-
 returns-2 : tie.Need-returns-2
 returns-2 c = c .valued .ensures ∙ ap outcome (sym (ending-nil _ _ _ _ (c .before .before .if1 .left) _ (c .before .if2 .taken)))
 
-shared-slice-read-b : tie.Need-shared-slice-read-b
-shared-slice-read-b c = search needs
-
-class-of-requires : tie.Need-class-of-requires
-class-of-requires c κs = search needs
-
-enum-told : tie.Need-enum-told
-enum-told c = search needs
-
-sub-read-exponent : tie.Need-sub-read-exponent
-sub-read-exponent c = search needs
-
-part-read-exponent-start : tie.Need-part-read-exponent-start
-part-read-exponent-start c = search needs
-
-part-read-exponent-end : tie.Need-part-read-exponent-end
-part-read-exponent-end c = search needs
-
-read-exponent-requires : tie.Need-read-exponent-requires
-read-exponent-requires c κs = search needs
-
 returns-3 : tie.Need-returns-3
 returns-3 c =
-    let e = c .before .before .before .before .before .before in
+    let c4 = c .before .before .before .before in
+    let e = c4 .before .before in
     let a = e .before .before .before .args in
     let s : List ℕ = a .s .now in
     let h : 0 < length s = omega (arith, e .if2 .left) in
     c .read-exponent .ensures
     ∙ ap (λ (l : List ℕ). outcome (exponent (a .minus) (a .w) (a .frac) l)) (tail-of s 1)
-    ∙ ap outcome (sym (ending-letter (a .minus) (a .w) (a .count) (a .frac) (e .before .if1 .left) s h (is-class Exponent _ (c .before .before .before .before .class-of .ensures) (c .before .before .enum-told .given .1))))
+    ∙ ap outcome (sym (ending-letter (a .minus) (a .w) (a .count) (a .frac) (e .before .if1 .left) s h (is-class Exponent _ (c4 .class-of .ensures) (c .before .before .enum-told .given .1))))
 
 returns-4 : tie.Need-returns-4
 returns-4 c =
@@ -59,21 +36,22 @@ returns-4 c =
     let a = e .before .before .before .args in
     let s : List ℕ = a .s .now in
     let h : 0 < length s = omega (arith, e .if2 .left) in
-    ap outcome (sym (ending-other (a .minus) (a .w) (a .count) (a .frac) (e .before .if1 .left) s h (not-class Exponent _ _ (0 ∷ 1 ∷ 2 ∷ 3 ∷ 5 ∷ []) (c .before .class-of .ensures) (c .match .keys2) tt)))
+    ap outcome (sym (ending-other (a .minus) (a .w) (a .count) (a .frac) (e .before .if1 .left) s h
+    (not-class Exponent _ _ (0 ∷ 1 ∷ 2 ∷ 3 ∷ 5 ∷ []) (c .before .class-of .ensures) (c .match .keys2) tt)))
 
 pub read-ending-spec : {M : Type 1} → statement M
 read-ending-spec =
     tie.close
     (tie.spec
     returns
-    valued-requires
+    (search needs)
     returns-2
-    shared-slice-read-b
-    class-of-requires
-    enum-told
-    sub-read-exponent
-    part-read-exponent-start
-    part-read-exponent-end
-    read-exponent-requires
+    (search needs)
+    (search needs)
+    (search needs)
+    (search needs)
+    (search needs)
+    (search needs)
+    (search needs)
     returns-3
     returns-4)

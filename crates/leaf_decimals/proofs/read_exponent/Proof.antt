@@ -17,30 +17,6 @@ use Rattle.leaf_decimals.proofs.read_exponent.Tie as tie
 returns : tie.Need-returns
 returns c = sym (exponent-nil _ _ _ _ (c .if1 .taken))
 
-shared-slice-read-b : tie.Need-shared-slice-read-b
-shared-slice-read-b c = search needs
-
-class-of-requires : tie.Need-class-of-requires
-class-of-requires c κs = search needs
-
-enum-told : tie.Need-enum-told
-enum-told c = search needs
-
-sub-read-power : tie.Need-sub-read-power
-sub-read-power c = search needs
-
-part-read-power-start : tie.Need-part-read-power-start
-part-read-power-start c = search needs
-
-part-read-power-end : tie.Need-part-read-power-end
-part-read-power-end c = search needs
-
-read-power-requires : tie.Need-read-power-requires
-read-power-requires c κs = search needs
-
-read-power-requires-2 : tie.Need-read-power-requires-2
-read-power-requires-2 c κs = search needs
-
 returns-2 : tie.Need-returns-2
 returns-2 c =
     let e = c .before .before .before .before .before .before in
@@ -65,13 +41,13 @@ read-exponent-spec =
     tie.close
     (tie.spec
     returns
-    shared-slice-read-b
-    class-of-requires
-    enum-told
-    sub-read-power
-    part-read-power-start
-    part-read-power-end
-    read-power-requires
-    read-power-requires-2
+    (search needs)
+    (search needs)
+    (search needs)
+    (search needs)
+    (search needs)
+    (search needs)
+    (search needs)
+    (search needs)
     returns-2
     returns-3)

@@ -18,30 +18,6 @@ use Rattle.leaf_decimals.proofs.read_number.Tie as tie
 returns : tie.Need-returns
 returns c = both-clauses _ _ (sym (number-nil _ (c .if1 .taken)))
 
-shared-slice-read-b : tie.Need-shared-slice-read-b
-shared-slice-read-b c = search needs
-
-class-of-requires : tie.Need-class-of-requires
-class-of-requires c κs = search needs
-
-enum-told : tie.Need-enum-told
-enum-told c = search needs
-
-sub-read-unsigned : tie.Need-sub-read-unsigned
-sub-read-unsigned c = search needs
-
-part-read-unsigned-start : tie.Need-part-read-unsigned-start
-part-read-unsigned-start c = search needs
-
-part-read-unsigned-end : tie.Need-part-read-unsigned-end
-part-read-unsigned-end c = search needs
-
-read-unsigned-requires : tie.Need-read-unsigned-requires
-read-unsigned-requires c κs = search needs
-
-read-unsigned-requires-2 : tie.Need-read-unsigned-requires-2
-read-unsigned-requires-2 c κs = search needs
-
 returns-2 : tie.Need-returns-2
 returns-2 c =
     let e = c .before .before .before .before .before .before in
@@ -66,13 +42,13 @@ read-number-spec =
     tie.close
     (tie.spec
     returns
-    shared-slice-read-b
-    class-of-requires
-    enum-told
-    sub-read-unsigned
-    part-read-unsigned-start
-    part-read-unsigned-end
-    read-unsigned-requires
-    read-unsigned-requires-2
+    (search needs)
+    (search needs)
+    (search needs)
+    (search needs)
+    (search needs)
+    (search needs)
+    (search needs)
+    (search needs)
     returns-2
     returns-3)

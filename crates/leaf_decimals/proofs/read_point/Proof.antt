@@ -26,32 +26,8 @@ part-le s n e = omega (arith, digits-le (take (length s - 1) (drop 1 s)), ap len
 returns : tie.Need-returns
 returns c = ap outcome (sym (point-nil _ _ _ _ (c .before .if1 .taken) ∙ ending-none _ _ _ _ _ (c .if2 .taken)))
 
-valued-requires : tie.Need-valued-requires
-valued-requires c κs = search needs
-
 returns-2 : tie.Need-returns-2
 returns-2 c = c .valued .ensures ∙ ap outcome (sym (point-nil _ _ _ _ (c .before .before .if1 .taken) ∙ ending-nil _ _ _ _ (c .before .if2 .left) _ (c .before .before .if1 .taken)))
-
-shared-slice-read-b : tie.Need-shared-slice-read-b
-shared-slice-read-b c = search needs
-
-class-of-requires : tie.Need-class-of-requires
-class-of-requires c κs = search needs
-
-enum-told : tie.Need-enum-told
-enum-told c = search needs
-
-sub-t : tie.Need-sub-t
-sub-t c = search needs
-
-part-t-start : tie.Need-part-t-start
-part-t-start c = search needs
-
-part-t-end : tie.Need-part-t-end
-part-t-end c = search needs
-
-leading-requires : tie.Need-leading-requires
-leading-requires c κs = search needs
 
 -- after the digits behind the point
 abbrev start : tie.After-leading → tie.Start
@@ -66,16 +42,14 @@ point-there c = is-class Point _ (c .before .before .before .before .class-of .e
 few : (c : tie.After-leading) → c .leading .result .len < 2 ^ 63
 few c = omega (arith, start c .good .1 .1 .1 .0 .1, part-le (start c .args .s .now) (c .leading .result .len) (c .leading .ensures .0))
 
-valued-requires-2 : tie.Need-valued-requires-2
-valued-requires-2 c κs = search needs
-
 returns-3 : tie.Need-returns-3
 returns-3 c =
     let d = c .before .before .before in
     let a = start d .args in
     let s : List ℕ = a .s .now in
     c .valued2 .ensures
-    ∙ point-only (a .minus) (a .w) (a .count) s (take (length s - 1) (drop 1 s)) _ _ (tail-of s 1) (d .leading .ensures .0) (d .leading .ensures .1) (some-left d) (point-there d) (c .before .before .if3 .taken) (c .before .if4 .taken)
+    ∙ point-only (a .minus) (a .w) (a .count) s (take (length s - 1) (drop 1 s)) _ _ (tail-of s 1) (d .leading .ensures .0) (d .leading .ensures .1)
+    (some-left d) (point-there d) (c .before .before .if3 .taken) (c .before .if4 .taken)
 
 add-read-ending : tie.Need-add-read-ending
 add-read-ending c = omega (arith, start (c .before) .pre .1, few (c .before))
@@ -86,14 +60,8 @@ sub-read-ending c = fits-part _ _ (c .before .leading .ensures .0)
 part-read-ending-start : tie.Need-part-read-ending-start
 part-read-ending-start c = fits-part _ _ (c .before .leading .ensures .0)
 
-part-read-ending-end : tie.Need-part-read-ending-end
-part-read-ending-end c = search needs
-
 read-ending-requires : tie.Need-read-ending-requires
 read-ending-requires c κs = few (c .before .before)
-
-read-ending-requires-2 : tie.Need-read-ending-requires-2
-read-ending-requires-2 c κs = search needs
 
 returns-4 : tie.Need-returns-4
 returns-4 c =
@@ -117,22 +85,22 @@ read-point-spec =
     tie.close
     (tie.spec
     returns
-    valued-requires
+    (search needs)
     returns-2
-    shared-slice-read-b
-    class-of-requires
-    enum-told
-    sub-t
-    part-t-start
-    part-t-end
-    leading-requires
-    valued-requires-2
+    (search needs)
+    (search needs)
+    (search needs)
+    (search needs)
+    (search needs)
+    (search needs)
+    (search needs)
+    (search needs)
     returns-3
     add-read-ending
     sub-read-ending
     part-read-ending-start
-    part-read-ending-end
+    (search needs)
     read-ending-requires
-    read-ending-requires-2
+    (search needs)
     returns-4
     returns-5)

@@ -16,9 +16,6 @@ use Rattle.leaf_decimals.proofs.read_power.Tie as tie
 small : (x : ℕ) → min x cap ≤ 22 → min x cap ≡ x
 small x h = omega arith
 
-leading-requires : tie.Need-leading-requires
-leading-requires c κs = search needs
-
 returns : tie.Need-returns
 returns c = sym (power-none _ _ _ _ _ (sym (c .before .leading .ensures .0) ∙ c .if1 .taken))
 
@@ -27,38 +24,26 @@ returns-2 c =
     let s : List ℕ = c .before .before .before .before .args .s .now in
     sym (power-more _ _ _ _ s (subst (λ (n : ℕ). n < length s) (c .before .before .leading .ensures .0) (c .if2 .taken)))
 
-add-valued : tie.Need-add-valued
-add-valued c = search needs
-
-valued-requires : tie.Need-valued-requires
-valued-requires c κs = search needs
-
-add-valued-2 : tie.Need-add-valued-2
-add-valued-2 c = search needs
-
-valued-requires-2 : tie.Need-valued-requires-2
-valued-requires-2 c κs = search needs
-
-valued-requires-3 : tie.Need-valued-requires-3
-valued-requires-3 c κs = search needs
-
 returns-3 : tie.Need-returns-3
 returns-3 c =
-    let a = c .before .before .before .before .before in
+    let c3 = c .before .before .before in
+    let a = c3 .before .before in
     let s : List ℕ = a .before .before .args .s .now in
     let l = a .leading .ensures in
     c .valued .ensures
     ∙ meaning-cap-down _ _ (value 0 (digits s)) _ (subst (λ (n : ℕ). 22 < n) (l .1) (c .before .if4 .taken))
-    ∙ sym (power-back _ _ _ s (λ e. c .before .before .before .before .if1 .left (l .0 ∙ e)) (subst (λ (n : ℕ). length s ≤ n) (l .0) (c .before .before .before .if2 .left)) _ (c .before .before .if3 .taken))
+    ∙ sym (power-back _ _ _ s (λ e. c3 .before .if1 .left (l .0 ∙ e)) (subst (λ (n : ℕ). length s ≤ n) (l .0) (c3 .if2 .left)) _ (c .before .before .if3 .taken))
 
 returns-4 : tie.Need-returns-4
 returns-4 c =
-    let a = c .before .before .before .before .before in
+    let c3 = c .before .before .before in
+    let a = c3 .before .before in
     let s : List ℕ = a .before .before .args .s .now in
     let l = a .leading .ensures in
     c .valued2 .ensures
-    ∙ ap (λ (x : ℕ). meaning (a .before .before .args .minus) (a .before .before .args .w) 0 (a .before .before .args .frac + x)) (l .1 ∙ small (value 0 (digits s)) (subst (λ (n : ℕ). n ≤ 22) (l .1) (c .before .if4 .left)))
-    ∙ sym (power-back _ _ _ s (λ e. c .before .before .before .before .if1 .left (l .0 ∙ e)) (subst (λ (n : ℕ). length s ≤ n) (l .0) (c .before .before .before .if2 .left)) _ (c .before .before .if3 .taken))
+    ∙ ap (λ (x : ℕ). meaning (a .before .before .args .minus) (a .before .before .args .w) 0 (a .before .before .args .frac + x))
+    (l .1 ∙ small (value 0 (digits s)) (subst (λ (n : ℕ). n ≤ 22) (l .1) (c .before .if4 .left)))
+    ∙ sym (power-back _ _ _ s (λ e. c3 .before .if1 .left (l .0 ∙ e)) (subst (λ (n : ℕ). length s ≤ n) (l .0) (c3 .if2 .left)) _ (c .before .before .if3 .taken))
 
 returns-5 : tie.Need-returns-5
 returns-5 c =
@@ -74,14 +59,14 @@ pub read-power-spec : {M : Type 1} → statement M
 read-power-spec =
     tie.close
     (tie.spec
-    leading-requires
+    (search needs)
     returns
     returns-2
-    add-valued
-    valued-requires
-    add-valued-2
-    valued-requires-2
-    valued-requires-3
+    (search needs)
+    (search needs)
+    (search needs)
+    (search needs)
+    (search needs)
     returns-3
     returns-4
     returns-5)

@@ -29,38 +29,11 @@ nan-is : div binary64 (ofBits binary64 0) (ofBits binary64 0) ≡ nan
 unfolding div ofBits
 nan-is = refl
 
-leading-requires : tie.Need-leading-requires
-leading-requires c κs = search needs
-
-slice-aggregate-is-word : tie.Need-slice-aggregate-is-word
-slice-aggregate-is-word c = search needs
-
-is-word-requires : tie.Need-is-word-requires
-is-word-requires c κs = search needs
-
-with-sign-requires : tie.Need-with-sign-requires
-with-sign-requires c κs = search needs
-
 returns : tie.Need-returns
 returns c = ap Value (c .with-sign .ensures ∙ inf-is _) ∙ sym (unsigned-inf _ _ (sym (c .before .before .is-word .ensures) ∙ c .before .if2 .taken))
 
-slice-aggregate-is-word-2 : tie.Need-slice-aggregate-is-word-2
-slice-aggregate-is-word-2 c = search needs
-
-is-word-requires-2 : tie.Need-is-word-requires-2
-is-word-requires-2 c κs = search needs
-
-with-sign-requires-2 : tie.Need-with-sign-requires-2
-with-sign-requires-2 c κs = search needs
-
 returns-2 : tie.Need-returns-2
 returns-2 c = ap Value (c .with-sign2 .ensures ∙ inf-is _) ∙ sym (unsigned-infinity _ _ (sym (c .before .before .is-word2 .ensures) ∙ c .before .if3 .taken))
-
-slice-aggregate-is-word-3 : tie.Need-slice-aggregate-is-word-3
-slice-aggregate-is-word-3 c = search needs
-
-is-word-requires-3 : tie.Need-is-word-requires-3
-is-word-requires-3 c κs = search needs
 
 returns-3 : tie.Need-returns-3
 returns-3 c =
@@ -73,9 +46,6 @@ sub-read-point c = fits-part _ _ (c .before .leading .ensures .0)
 
 part-read-point-start : tie.Need-part-read-point-start
 part-read-point-start c = fits-part _ _ (c .before .leading .ensures .0)
-
-part-read-point-end : tie.Need-part-read-point-end
-part-read-point-end c = search needs
 
 read-point-requires : tie.Need-read-point-requires
 read-point-requires c κs =
@@ -90,26 +60,27 @@ returns-4 c =
     let l = e .leading .ensures in
     c .read-point .ensures
     ∙ digits-law _ _ _ _ (l .0) (l .1)
-    ∙ ap outcome (sym (⊎-elim (λ w. unsigned-digits (a .minus) (a .s .now) (sym (w .2 .ensures) ∙ w .3 .left) (sym (w .5 .ensures) ∙ w .6 .left) (sym (w .8 .ensures) ∙ w .9 .left)) (λ w. unsigned-begun (a .minus) (a .s .now) (λ q. w .left (l .0 ∙ q))) (c .before .before .if1 .came)))
+    ∙ ap outcome (sym (⊎-elim (λ w. unsigned-digits (a .minus) (a .s .now) (sym (w .2 .ensures) ∙ w .3 .left) (sym (w .5 .ensures) ∙ w .6 .left)
+    (sym (w .8 .ensures) ∙ w .9 .left)) (λ w. unsigned-begun (a .minus) (a .s .now) (λ q. w .left (l .0 ∙ q))) (c .before .before .if1 .came)))
 
 pub read-unsigned-spec : {M : Type 1} → statement M
 read-unsigned-spec =
     tie.close
     (tie.spec
-    leading-requires
-    slice-aggregate-is-word
-    is-word-requires
-    with-sign-requires
+    (search needs)
+    (search needs)
+    (search needs)
+    (search needs)
     returns
-    slice-aggregate-is-word-2
-    is-word-requires-2
-    with-sign-requires-2
+    (search needs)
+    (search needs)
+    (search needs)
     returns-2
-    slice-aggregate-is-word-3
-    is-word-requires-3
+    (search needs)
+    (search needs)
     returns-3
     sub-read-point
     part-read-point-start
-    part-read-point-end
+    (search needs)
     read-point-requires
     returns-4)

@@ -26,18 +26,12 @@ module _ (minus : Bool) (w up down k : ℕ) (n : w ≡ 0 → ⊥) (l : w ≤ 2 ^
       let e : k ≡ down - up = omega arith in
       ap (λ (x : Float). Value (signed minus (div binary64 (ofInt binary64 (pos w)) x))) (q ∙ ap ten e) ∙ sym (meaning-down minus w up down n l h (omega arith))
 
-with-sign-requires : tie.Need-with-sign-requires
-with-sign-requires c κs = search needs
-
 returns : tie.Need-returns
 unfolding ofBits
 returns c = ap Value (c .with-sign .ensures) ∙ sym (meaning-zero _ _ _ _ (c .before .if1 .taken))
 
 returns-2 : tie.Need-returns-2
 returns-2 c = sym (meaning-far _ _ _ _ (c .if2 .taken))
-
-gap-requires : tie.Need-gap-requires
-gap-requires c κs = search needs
 
 returns-3 : tie.Need-returns-3
 returns-3 c = sym (meaning-apart _ _ _ _ _ (c .before .before .before .if1 .left) (c .before .gap .ensures) (c .if3 .taken))
@@ -46,41 +40,34 @@ int-to-float-x : tie.Need-int-to-float-x
 unfolding inFloat
 int-to-float-x c = le→leb _ _ (c .before .before .before .if2 .left)
 
-power-of-ten-requires : tie.Need-power-of-ten-requires
-power-of-ten-requires c κs = search needs
-
-with-sign-requires-2 : tie.Need-with-sign-requires-2
-with-sign-requires-2 c κs = search needs
-
-with-sign-requires-3 : tie.Need-with-sign-requires-3
-with-sign-requires-3 c κs = search needs
-
 returns-4 : tie.Need-returns-4
 returns-4 c =
     let t = c .before .before in
     let g = t .before .before .before in
     let a = g .before .before .before .args in
-    ap Value (c .with-sign2 .ensures) ∙ times (a .minus) (a .w) (a .up) (a .down) _ (g .before .before .if1 .left) (g .before .if2 .left) (g .gap .ensures) (t .before .before .if3 .left) _ (t .power-of-ten .ensures) (c .before .if4 .taken)
+    ap Value (c .with-sign2 .ensures) ∙ times (a .minus) (a .w) (a .up) (a .down) _ (g .before .before .if1 .left) (g .before .if2 .left) (g .gap .ensures)
+    (t .before .before .if3 .left) _ (t .power-of-ten .ensures) (c .before .if4 .taken)
 
 returns-5 : tie.Need-returns-5
 returns-5 c =
     let t = c .before .before in
     let g = t .before .before .before in
     let a = g .before .before .before .args in
-    ap Value (c .with-sign3 .ensures) ∙ over (a .minus) (a .w) (a .up) (a .down) _ (g .before .before .if1 .left) (g .before .if2 .left) (g .gap .ensures) (t .before .before .if3 .left) _ (t .power-of-ten .ensures) (c .before .if4 .left)
+    ap Value (c .with-sign3 .ensures) ∙ over (a .minus) (a .w) (a .up) (a .down) _ (g .before .before .if1 .left) (g .before .if2 .left) (g .gap .ensures)
+    (t .before .before .if3 .left) _ (t .power-of-ten .ensures) (c .before .if4 .left)
 
 pub valued-spec : {M : Type 1} → statement M
 valued-spec =
     tie.close
     (tie.spec
-    with-sign-requires
+    (search needs)
     returns
     returns-2
-    gap-requires
+    (search needs)
     returns-3
     int-to-float-x
-    power-of-ten-requires
-    with-sign-requires-2
-    with-sign-requires-3
+    (search needs)
+    (search needs)
+    (search needs)
     returns-4
     returns-5)

@@ -8,8 +8,5 @@ returns : tie.Need-returns
 unfolding neg
 returns c = search needs
 
-returns-2 : tie.Need-returns-2
-returns-2 c = search needs
-
 pub with-sign-spec : {M : Type 1} → statement M
-with-sign-spec = tie.close (tie.spec returns returns-2)
+with-sign-spec = tie.close (tie.spec returns (λ c. search needs))

@@ -9,19 +9,10 @@ use borrow.Author.Needs.{needs}
 use Rattle.leaf_digits.proofs.ends_at.Statement.{statement}
 use Rattle.leaf_digits.proofs.ends_at.Tie as tie
 
-shared-slice-read-b : tie.Need-shared-slice-read-b
-shared-slice-read-b c = search needs
-
 returns : tie.Need-returns
 returns c =
     let a = c .before .before .before .before .args in
     sym (above-space _ (c .if2 .taken)) ∙ ended-at (now (a .s)) (a .i) (c .before .before .if1 .taken)
-
-class-of-requires : tie.Need-class-of-requires
-class-of-requires c κs = search needs
-
-enum-told : tie.Need-enum-told
-enum-told c = search needs
 
 returns-2 : tie.Need-returns-2
 returns-2 c =
@@ -42,10 +33,10 @@ pub ends-at-spec : {M : Type 1} → statement M
 ends-at-spec =
     tie.close
     (tie.spec
-    shared-slice-read-b
+    (search needs)
     returns
-    class-of-requires
-    enum-told
+    (search needs)
+    (search needs)
     returns-2
     returns-3
     returns-4)

@@ -34,7 +34,10 @@ digit-value-requires : tie.Need-digit-value-requires Inv-loop μ-loop
 digit-value-requires c κs = digit-range _ (sym (c .before .is-digit .ensures) ∙ c .if1 .taken)
 
 -- the byte is a digit
-here : (c : tie.After-digit-value Inv-loop μ-loop) → is Digit (getD (c .before .before .before .before .before .before .before .args .s .now) (c .before .before .before .before .before .loop .i) 0) ≡ true
+here : (c : tie.After-digit-value Inv-loop μ-loop) →
+    let c5 = c .before .before .before .before .before in
+    let a = c5 .before .before .args in
+    is Digit (getD (a .s .now) (c5 .loop .i) 0) ≡ true
 here c = sym (c .before .before .is-digit .ensures) ∙ c .before .if1 .taken
 
 add-v : tie.Need-add-v Inv-loop μ-loop
@@ -45,7 +48,10 @@ returns : tie.Need-returns Inv-loop μ-loop
 returns c = let k = c .before .before .before .before .loop .inv in (k .1, k .2)
 
 add-i : tie.Need-add-i Inv-loop μ-loop
-add-i c = omega (arith, c .before .before .before .before .loop-test .taken, c .before .before .before .before .before .loop .inv .0, c .before .before .before .before .before .before .before .good .0 .1)
+add-i c =
+    let c4 = c .before .before .before .before in
+    let c7 = c4 .before .before .before in
+    omega (arith, c4 .loop-test .taken, c4 .before .loop .inv .0, c7 .good .0 .1)
 
 loop-less : tie.Need-loop-less Inv-loop μ-loop
 loop-less c = omega (arith, c .before .before .before .before .loop-test .taken)

@@ -14,12 +14,6 @@ returns c = sym (no-digit _ (λ r. omega (arith, r, c .if1 .taken)))
 returns-2 : tie.Need-returns-2
 returns-2 c = sym (no-digit _ (λ r. omega (arith, r, c .if2 .taken)))
 
-class-of-requires : tie.Need-class-of-requires
-class-of-requires c κs = search needs
-
-enum-told : tie.Need-enum-told
-enum-told c = search needs
-
 returns-3 : tie.Need-returns-3
 returns-3 c = sym (is-class Digit _ (c .before .before .class-of .ensures) (c .enum-told .given .1))
 
@@ -27,4 +21,4 @@ returns-4 : tie.Need-returns-4
 returns-4 c = sym (not-class Digit _ _ (0 ∷ 2 ∷ 3 ∷ 4 ∷ 5 ∷ []) (c .before .class-of .ensures) (c .match .keys2) tt)
 
 pub is-digit-spec : {M : Type 1} → statement M
-is-digit-spec = tie.close (tie.spec returns returns-2 class-of-requires enum-told returns-3 returns-4)
+is-digit-spec = tie.close (tie.spec returns returns-2 (search needs) (search needs) returns-3 returns-4)

@@ -5,9 +5,6 @@ use borrow.Author.Needs.{needs}
 use Rattle.leaf_digits.proofs.lowered.Statement.{statement}
 use Rattle.leaf_digits.proofs.lowered.Tie as tie
 
-add-result : tie.Need-add-result
-add-result c = search needs
-
 returns : tie.Need-returns
 returns c = simp (le-leb 65 (c .before .before .args .b) (omega arith), le-leb (c .before .before .args .b) 90 (omega arith))
 
@@ -18,4 +15,4 @@ returns-3 : tie.Need-returns-3
 returns-3 c = simp (le-leb 65 (c .before .before .args .b) (omega arith), lt-leb (c .before .before .args .b) 90 (omega arith))
 
 pub lowered-spec : {M : Type 1} → statement M
-lowered-spec = tie.close (tie.spec add-result returns returns-2 returns-3)
+lowered-spec = tie.close (tie.spec (search needs) returns returns-2 returns-3)

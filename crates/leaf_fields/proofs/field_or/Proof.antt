@@ -3,20 +3,8 @@ use borrow.Author.Needs.{needs}
 use Rattle.leaf_fields.proofs.field_or.Statement.{statement}
 use Rattle.leaf_fields.proofs.field_or.Tie as tie
 
-next-field-requires : tie.Need-next-field-requires
-next-field-requires c κs = search needs
-
-enum-known-f : tie.Need-enum-known-f
-enum-known-f c = search needs
-
-enum-told : tie.Need-enum-told
-enum-told c = search needs
-
 returns : tie.Need-returns
 returns c = rw (c .before .before .next-field .ensures .nothing (c .enum-told .given .1))
-
-letters-of-requires : tie.Need-letters-of-requires
-letters-of-requires c κs = search needs
 
 returns-2 : tie.Need-returns-2
 returns-2 c = rw (c .before .before .before .before .next-field .ensures .taken _ (c .before .before .f .given .1) .0) (c .letters-of .ensures)
@@ -24,4 +12,4 @@ returns-2 c = rw (c .before .before .before .before .next-field .ensures .taken 
 pub field-or-spec : {M : Type 1} → statement M
 field-or-spec =
     tie.close
-    (tie.spec next-field-requires enum-known-f enum-told returns letters-of-requires returns-2)
+    (tie.spec (search needs) (search needs) (search needs) returns (search needs) returns-2)

@@ -5,15 +5,6 @@ use Rattle.leaf_fields.proofs.FieldLaws.{next-from, next-nothing}
 use Rattle.leaf_fields.proofs.next_field.Statement.{statement}
 use Rattle.leaf_fields.proofs.next_field.Tie as tie
 
-field-start-requires : tie.Need-field-start-requires
-field-start-requires c κs = search needs
-
-add-reach : tie.Need-add-reach
-add-reach c = search needs
-
-reach-requires : tie.Need-reach-requires
-reach-requires c κs = search needs
-
 returns : tie.Need-returns
 returns c =
     let a = c .before .before .before .before .args in
@@ -25,4 +16,4 @@ returns-2 c =
     next-nothing (now (a .l)) (a .at) (c .before .field-start .result) 0 (c .before .field-start .ensures) (c .if1 .left)
 
 pub next-field-spec : {M : Type 1} → statement M
-next-field-spec = tie.close (tie.spec field-start-requires add-reach reach-requires returns returns-2)
+next-field-spec = tie.close (tie.spec (search needs) (search needs) (search needs) returns returns-2)

@@ -4,14 +4,8 @@ use borrow.Author.Needs.{needs}
 use Rattle.leaf_fields.proofs.past_field.Statement.{statement}
 use Rattle.leaf_fields.proofs.past_field.Tie as tie
 
-next-field-requires : tie.Need-next-field-requires
-next-field-requires c κs = search needs
-
-field-end-requires : tie.Need-field-end-requires
-field-end-requires c κs = search needs
-
 returns : tie.Need-returns
 returns c = c .field-end .ensures (now (c .before .before .before .args .l)) (c .before .next-field .ensures)
 
 pub past-field-spec : {M : Type 1} → statement M
-past-field-spec = tie.close (tie.spec next-field-requires field-end-requires returns)
+past-field-spec = tie.close (tie.spec (search needs) (search needs) returns)

@@ -5,9 +5,6 @@ use borrow.Author.Needs.{needs}
 use Rattle.leaf_letters.proofs.raise.Statement.{statement}
 use Rattle.leaf_letters.proofs.raise.Tie as tie
 
-sub-result : tie.Need-sub-result
-sub-result c = search needs
-
 returns : tie.Need-returns
 returns c = simp (le-leb 97 (c .before .before .args .b) (omega arith), le-leb (c .before .before .args .b) 122 (omega arith))
 
@@ -18,4 +15,4 @@ returns-3 : tie.Need-returns-3
 returns-3 c = simp (le-leb 97 (c .before .before .args .b) (omega arith), lt-leb (c .before .before .args .b) 122 (omega arith))
 
 pub raise-spec : {M : Type 1} → statement M
-raise-spec = tie.close (tie.spec sub-result returns returns-2 returns-3)
+raise-spec = tie.close (tie.spec (search needs) returns returns-2 returns-3)

@@ -27,9 +27,6 @@ loop-holds c = (c .if1 .left, refl)
 shared-slice-read-raise : tie.Need-shared-slice-read-raise Inv-loop μ-loop
 shared-slice-read-raise c = omega arith
 
-raise-requires : tie.Need-raise-requires Inv-loop μ-loop
-raise-requires c κs = search needs
-
 shared-slice-read-if2 : tie.Need-shared-slice-read-if2 Inv-loop μ-loop
 shared-slice-read-if2 c = omega arith
 
@@ -68,7 +65,7 @@ spells-spec =
     returns
     loop-holds
     shared-slice-read-raise
-    raise-requires
+    (search needs)
     shared-slice-read-if2
     returns-2
     add-i

@@ -6,14 +6,8 @@ use borrow.Author.Needs.{needs}
 use Rattle.leaf_letters.proofs.starts_with.Statement.{statement}
 use Rattle.leaf_letters.proofs.starts_with.Tie as tie
 
-cut-requires : tie.Need-cut-requires
-cut-requires c κs = search needs
-
-equal-requires : tie.Need-equal-requires
-equal-requires c κs = search needs
-
 returns : tie.Need-returns
 returns c = c .equal .ensures ∙ ap (λ x. same x (now (c .before .before .before .before .args .w))) (c .before .cut .ensures)
 
 pub starts-with-spec : {M : Type 1} → statement M
-starts-with-spec = tie.close (tie.spec cut-requires equal-requires returns)
+starts-with-spec = tie.close (tie.spec (search needs) (search needs) returns)

@@ -5,18 +5,6 @@ use mathlib.Core.Bool.{not}
 use Rattle.leaf_scans.proofs.is_kind.Statement.{statement}
 use Rattle.leaf_scans.proofs.is_kind.Tie as tie
 
-enum-told : tie.Need-enum-told
-enum-told c = search needs
-
-is-space-requires : tie.Need-is-space-requires
-is-space-requires c κs = search needs
-
-enum-told-2 : tie.Need-enum-told-2
-enum-told-2 c = search needs
-
-is-space-requires-2 : tie.Need-is-space-requires-2
-is-space-requires-2 c κs = search needs
-
 returns : tie.Need-returns
 returns c = rw (c .before .enum-told .given .1) (c .is-space .ensures)
 
@@ -26,4 +14,4 @@ returns-2 c = rw (c .before .enum-told2 .given .1) (ap not (c .is-space2 .ensure
 pub is-kind-spec : {M : Type 1} → statement M
 is-kind-spec =
     tie.close
-    (tie.spec enum-told is-space-requires enum-told-2 is-space-requires-2 returns returns-2)
+    (tie.spec (search needs) (search needs) (search needs) (search needs) returns returns-2)

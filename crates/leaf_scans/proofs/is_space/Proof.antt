@@ -10,12 +10,6 @@ use Rattle.leaf_scans.proofs.is_space.Tie as tie
 returns : tie.Need-returns
 returns c = sym (above-space (c .before .args .b) (c .if1 .taken))
 
-class-of-requires : tie.Need-class-of-requires
-class-of-requires c κs = search needs
-
-enum-told : tie.Need-enum-told
-enum-told c = search needs
-
 returns-2 : tie.Need-returns-2
 returns-2 c = sym (is-class Space (c .before .before .before .before .args .b) (c .before .before .class-of .ensures) (c .enum-told .given .1))
 
@@ -23,4 +17,4 @@ returns-3 : tie.Need-returns-3
 returns-3 c = sym (not-class Space (c .before .before .before .args .b) (c .before .class-of .result) (1 ∷ 2 ∷ 3 ∷ 4 ∷ 5 ∷ []) (c .before .class-of .ensures) (c .match .keys2) tt)
 
 pub is-space-spec : {M : Type 1} → statement M
-is-space-spec = tie.close (tie.spec returns class-of-requires enum-told returns-2 returns-3)
+is-space-spec = tie.close (tie.spec returns (search needs) (search needs) returns-2 returns-3)

@@ -5,12 +5,6 @@ use borrow.Author.Needs.{needs}
 use Rattle.leaf_scans.proofs.line_end.Statement.{statement}
 use Rattle.leaf_scans.proofs.line_end.Tie as tie
 
-find-either-requires : tie.Need-find-either-requires
-find-either-requires c κs = search needs
-
-add-result : tie.Need-add-result
-add-result c = search needs
-
 returns : tie.Need-returns
 returns c =
     let a = c .before .before .before .args in
@@ -23,4 +17,4 @@ returns-2 c =
 
 pub line-end-spec : {M : Type 1} → statement M
 line-end-spec =
-    tie.close (tie.spec find-either-requires add-result returns returns-2)
+    tie.close (tie.spec (search needs) (search needs) returns returns-2)

@@ -23,9 +23,6 @@ loop-holds c = refl
 shared-slice-read-is-kind : tie.Need-shared-slice-read-is-kind Inv-loop μ-loop
 shared-slice-read-is-kind c = omega arith
 
-is-kind-requires : tie.Need-is-kind-requires Inv-loop μ-loop
-is-kind-requires c κs = search needs
-
 add-i : tie.Need-add-i Inv-loop μ-loop
 add-i c = omega arith
 
@@ -57,7 +54,7 @@ reach-spec =
     μ-loop
     loop-holds
     shared-slice-read-is-kind
-    is-kind-requires
+    (search needs)
     add-i
     loop-less
     loop-again

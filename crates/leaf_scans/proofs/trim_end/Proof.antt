@@ -26,9 +26,6 @@ sub-is-space c = omega arith
 shared-slice-read-is-space : tie.Need-shared-slice-read-is-space Inv-loop μ-loop
 shared-slice-read-is-space c = omega arith
 
-is-space-requires : tie.Need-is-space-requires Inv-loop μ-loop
-is-space-requires c κs = search needs
-
 sub-e : tie.Need-sub-e Inv-loop μ-loop
 sub-e c = omega arith
 
@@ -59,7 +56,7 @@ trim-end-spec =
     loop-holds
     sub-is-space
     shared-slice-read-is-space
-    is-space-requires
+    (search needs)
     sub-e
     loop-less
     loop-again

@@ -5,18 +5,6 @@ use borrow.Author.Needs.{needs}
 use Rattle.leaf_scans.proofs.trimmed.Statement.{statement}
 use Rattle.leaf_scans.proofs.trimmed.Tie as tie
 
-reach-requires : tie.Need-reach-requires
-reach-requires c κs = search needs
-
-cut-requires : tie.Need-cut-requires
-cut-requires c κs = search needs
-
-trim-end-requires : tie.Need-trim-end-requires
-trim-end-requires c κs = search needs
-
-cut-requires-2 : tie.Need-cut-requires-2
-cut-requires-2 c κs = search needs
-
 returns : tie.Need-returns
 returns c =
     trim-cut (now (c .before .before .before .before .before .args .l)) (now (c .before .before .cut .result)) _ _ _ (c .before .before .before .reach .ensures)
@@ -24,4 +12,4 @@ returns c =
 
 pub trimmed-spec : {M : Type 1} → statement M
 trimmed-spec =
-    tie.close (tie.spec reach-requires cut-requires trim-end-requires cut-requires-2 returns)
+    tie.close (tie.spec (search needs) (search needs) (search needs) (search needs) returns)

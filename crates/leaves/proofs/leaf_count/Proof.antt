@@ -7,15 +7,6 @@ use borrow.Author.Needs.{needs}
 use Rattle.leaves.proofs.leaf_count.Statement.{statement}
 use Rattle.leaves.proofs.leaf_count.Tie as tie
 
-read-count-requires : tie.Need-read-count-requires
-read-count-requires c κs = search needs
-
-enum-known-n : tie.Need-enum-known-n
-enum-known-n c = search needs
-
-enum-told : tie.Need-enum-told
-enum-told c = search needs
-
 returns : tie.Need-returns
 returns c = both countAnswer wholeIn _ _ (sym (c .before .n .given .1) ∙ c .before .before .before .read-count .ensures)
 
@@ -23,4 +14,4 @@ returns-2 : tie.Need-returns-2
 returns-2 c = both countAnswer wholeIn _ _ (sym (c .enum-told .given .1) ∙ c .before .before .read-count .ensures)
 
 pub leaf-count-spec : {M : Type 1} → statement M
-leaf-count-spec = tie.close (tie.spec read-count-requires enum-known-n enum-told returns returns-2)
+leaf-count-spec = tie.close (tie.spec (λ c κs. search needs) (λ c. search needs) (λ c. search needs) returns returns-2)

@@ -8,18 +8,6 @@ use borrow.Author.Needs.{needs}
 use Rattle.leaves.proofs.leaf_number.Statement.{statement}
 use Rattle.leaves.proofs.leaf_number.Tie as tie
 
-read-number-requires : tie.Need-read-number-requires
-read-number-requires c κs = search needs
-
-enum-known-n : tie.Need-enum-known-n
-enum-known-n c = search needs
-
-enum-told : tie.Need-enum-told
-enum-told c = search needs
-
-enum-told-2 : tie.Need-enum-told-2
-enum-told-2 c = search needs
-
 returns : tie.Need-returns
 unfolding ofBits
 returns c = both numberAnswer valueIn _ _ (sym (c .before .n .given .1) ∙ c .before .before .before .read-number .ensures .0)
@@ -35,4 +23,4 @@ returns-3 c = both numberAnswer valueIn _ _ (sym (c .enum-told2 .given .1) ∙ c
 pub leaf-number-spec : {M : Type 1} → statement M
 leaf-number-spec =
     tie.close
-    (tie.spec read-number-requires enum-known-n enum-told enum-told-2 returns returns-2 returns-3)
+    (tie.spec (λ c κs. search needs) (λ c. search needs) (λ c. search needs) (λ c. search needs) returns returns-2 returns-3)

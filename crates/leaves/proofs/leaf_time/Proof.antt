@@ -6,21 +6,6 @@ use borrow.Author.Needs.{needs}
 use Rattle.leaves.proofs.leaf_time.Statement.{statement}
 use Rattle.leaves.proofs.leaf_time.Tie as tie
 
-read-time-requires : tie.Need-read-time-requires
-read-time-requires c κs = search needs
-
-enum-known-t : tie.Need-enum-known-t
-enum-known-t c = search needs
-
-enum-told : tie.Need-enum-told
-enum-told c = search needs
-
-enum-told-2 : tie.Need-enum-told-2
-enum-told-2 c = search needs
-
-enum-told-3 : tie.Need-enum-told-3
-enum-told-3 c = search needs
-
 returns : tie.Need-returns
 returns c = both timeAnswer secondsIn _ _ (sym (c .before .t .given .1) ∙ c .before .before .before .read-time .ensures .0)
 
@@ -37,11 +22,11 @@ pub leaf-time-spec : {M : Type 1} → statement M
 leaf-time-spec =
     tie.close
     (tie.spec
-    read-time-requires
-    enum-known-t
-    enum-told
-    enum-told-2
-    enum-told-3
+    (λ c κs. search needs)
+    (λ c. search needs)
+    (λ c. search needs)
+    (λ c. search needs)
+    (λ c. search needs)
     returns
     returns-2
     returns-3

@@ -7,15 +7,6 @@ use borrow.Author.Needs.{needs}
 use Rattle.vectors.proofs.double_agrees.Statement.{statement}
 use Rattle.vectors.proofs.double_agrees.Tie as tie
 
-slice-aggregate-same : tie.Need-slice-aggregate-same
-slice-aggregate-same c = search needs
-
-same-requires : tie.Need-same-requires
-same-requires c κs = search needs
-
-returns : tie.Need-returns
-returns c = search needs
-
 not-nan : (x : Float) → ne x x ≡ false → T (not (isNan x))
 unfolding ne eq isNan
 not-nan nan e = absurd (true≢false e)
@@ -25,19 +16,13 @@ not-nan (fin s m d) e = tt
 float-to-bits-is-hex : tie.Need-float-to-bits-is-hex
 float-to-bits-is-hex c = not-nan _ (c .if1 .left)
 
-is-hex-requires : tie.Need-is-hex-requires
-is-hex-requires c κs = search needs
-
-returns-2 : tie.Need-returns-2
-returns-2 c = search needs
-
 pub double-agrees-spec : {M : Type 1} → statement M
 double-agrees-spec =
     tie.close
     (tie.spec
-    slice-aggregate-same
-    same-requires
-    returns
+    (λ c. search needs)
+    (λ c κs. search needs)
+    (λ c. search needs)
     float-to-bits-is-hex
-    is-hex-requires
-    returns-2)
+    (λ c κs. search needs)
+    (λ c. search needs))

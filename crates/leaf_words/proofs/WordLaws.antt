@@ -7,7 +7,7 @@ use lib.ListN.{length, take, getD}
 use lib.Seq.{take-all, take-suc, length-take-le}
 use lib.Pow.{pow-add, shl-exact}
 use lib.Bits.{bitOr, or-shifted-r}
-use Rattle.leaf_scans.specs.Scan.{word}
+use Rattle.leaf_words.specs.Scan.{word}
 
 -- every element is a byte
 abbrev pub Bytes : List ℕ → Type 0

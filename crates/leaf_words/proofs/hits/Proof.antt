@@ -1,20 +1,11 @@
--- `leaf_scans::hits` meets its contract. Assumes nothing.
+-- `leaf_words::hits` meets its contract. Assumes nothing.
 use native.Mathlib.Omega.{arith}
 use denote.Ref.{now}
 use lib.Bits.{xor-lt}
-use Rattle.leaf_scans.proofs.HitLaws.{hit-one, hit-either}
+use Rattle.leaf_words.proofs.HitLaws.{hit-one, hit-either}
 use borrow.Author.Needs.{needs}
-use Rattle.leaf_scans.proofs.hits.Statement.{statement}
-use Rattle.leaf_scans.proofs.hits.Tie as tie
-
-word-of-requires : tie.Need-word-of-requires
-word-of-requires c κs = search needs
-
-eight-requires : tie.Need-eight-requires
-eight-requires c κs = search needs
-
-wrapping-sub-u64-requires : tie.Need-wrapping-sub-u64-requires
-wrapping-sub-u64-requires c κs = search needs
+use Rattle.leaf_words.proofs.hits.Statement.{statement}
+use Rattle.leaf_words.proofs.hits.Tie as tie
 
 returns : tie.Need-returns
 returns c =
@@ -22,12 +13,6 @@ returns c =
     let a = w .before .before .args in
     hit-one (a .a) (a .b) (now (a .block)) (omega arith) (omega arith) (w .before .before .pre) (λ i. w .before .shared-slice-known .given i .fits) _ _ _
     (w .word-of .ensures) (c .before .before .eight .ensures) (xor-lt 64 _ _ (w .word-of .ok) (c .before .before .eight .ok)) (c .before .wrapping-sub-u64 .ensures) (c .if1 .taken)
-
-eight-requires-2 : tie.Need-eight-requires-2
-eight-requires-2 c κs = search needs
-
-wrapping-sub-u64-requires-2 : tie.Need-wrapping-sub-u64-requires-2
-wrapping-sub-u64-requires-2 c κs = search needs
 
 returns-2 : tie.Need-returns-2
 returns-2 c =
@@ -42,10 +27,10 @@ pub hits-spec : {M : Type 1} → statement M
 hits-spec =
     tie.close
     (tie.spec
-    word-of-requires
-    eight-requires
-    wrapping-sub-u64-requires
+    (search needs)
+    (search needs)
+    (search needs)
     returns
-    eight-requires-2
-    wrapping-sub-u64-requires-2
+    (search needs)
+    (search needs)
     returns-2)

@@ -1,4 +1,4 @@
--- `leaf_scans::find_either` meets its contract. Assumes nothing.
+-- `leaf_words::find_either` meets its contract. Assumes nothing.
 use Prim.Native.Nat.{_+_, _-_, _≤_}
 use native.Mathlib.Omega.{arith}
 use borrow.Author.Needs.{needs}
@@ -6,11 +6,11 @@ use denote.Ref.{now}
 use mathlib.Core.Path.{_≡_, refl, _∙_}
 use lib.ListN.{length, drop}
 use lib.Count.{trailing-le}
-use Rattle.leaf_scans.specs.Scan.{clearLen}
-use Rattle.leaf_scans.proofs.ScanLaws.{length-part, clear-end}
-use Rattle.leaf_scans.proofs.MarkLaws.{mark-found, mark-past}
-use Rattle.leaf_scans.proofs.find_either.Statement.{statement}
-use Rattle.leaf_scans.proofs.find_either.Tie as tie
+use Rattle.leaf_words.specs.Scan.{clearLen}
+use Rattle.leaf_words.proofs.ScanLaws.{length-part, clear-end}
+use Rattle.leaf_words.proofs.MarkLaws.{mark-found, mark-past}
+use Rattle.leaf_words.proofs.find_either.Statement.{statement}
+use Rattle.leaf_words.proofs.find_either.Tie as tie
 
 abbrev Inv-loop : tie.InvT-loop
 Inv-loop text from a b n i₀ i = (i + clearLen a b (drop i text) ≡ from + clearLen a b (drop from text)) × (i ≤ length text)
@@ -31,12 +31,6 @@ sub-loop c = omega arith
 
 add-m : tie.Need-add-m Inv-loop μ-loop
 add-m c = omega arith
-
-sub-hits : tie.Need-sub-hits Inv-loop μ-loop
-sub-hits c = search needs
-
-part-hits-start : tie.Need-part-hits-start Inv-loop μ-loop
-part-hits-start c = search needs
 
 part-hits-end : tie.Need-part-hits-end Inv-loop μ-loop
 part-hits-end c = omega arith
@@ -60,9 +54,6 @@ returns-2 c =
 
 add-e : tie.Need-add-e Inv-loop μ-loop
 add-e c = omega arith
-
-sub-hits-2 : tie.Need-sub-hits-2 Inv-loop μ-loop
-sub-hits-2 c = search needs
 
 part-hits-start-2 : tie.Need-part-hits-start-2 Inv-loop μ-loop
 part-hits-start-2 c = omega arith
@@ -100,9 +91,6 @@ loop-again c =
     let h = mark-past (a .a) (a .b) (now (a .text)) (a .from) (p .loop .i) _ (p .loop .inv .0) (omega arith) (f .before .hits .ensures) (f .if2 .left) in
     (mark-past (a .a) (a .b) (now (a .text)) (a .from) (p .loop .i + 8) _ h (omega arith) (c .before .hits2 .ensures) (c .if3 .left), omega arith)
 
-find-near-requires : tie.Need-find-near-requires Inv-loop μ-loop
-find-near-requires c κs = search needs
-
 returns-4 : tie.Need-returns-4 Inv-loop μ-loop
 returns-4 c = c .find-near .ensures ∙ c .before .before .loop .inv .0
 
@@ -116,15 +104,15 @@ find-either-spec =
     loop-holds
     sub-loop
     add-m
-    sub-hits
-    part-hits-start
+    (search needs)
+    (search needs)
     part-hits-end
     hits-requires
     cast-result
     add-result
     returns-2
     add-e
-    sub-hits-2
+    (search needs)
     part-hits-start-2
     part-hits-end-2
     hits-requires-2
@@ -133,5 +121,5 @@ find-either-spec =
     returns-3
     loop-less
     loop-again
-    find-near-requires
+    (search needs)
     returns-4)

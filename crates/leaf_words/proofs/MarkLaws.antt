@@ -7,8 +7,8 @@ use mathlib.Core.List.{List}
 use lib.ListN.{length, take, drop}
 use lib.Seq.{drop-drop}
 use lib.Count.{under, trailingZeros, trailing-of-zero}
-use Rattle.leaf_scans.specs.Scan.{part, clearLen}
-use Rattle.leaf_scans.proofs.ScanLaws.{length-part, clear-found, clear-past}
+use Rattle.leaf_words.specs.Scan.{part, clearLen}
+use Rattle.leaf_words.proofs.ScanLaws.{length-part, clear-found, clear-past}
 
 -- a number of k digits that is not zero has fewer zeros
 zeros-lt : (k r : ℕ) → r < 2 ^ k → (r ≡ 0 → ⊥) → trailingZeros k r < k

@@ -1,14 +1,14 @@
--- `leaf_scans::find_near` meets its contract. Assumes nothing.
+-- `leaf_words::find_near` meets its contract. Assumes nothing.
 use Prim.Native.Nat.{_+_, _-_}
 use native.Mathlib.Omega.{arith}
 use native.Mathlib.Numerals.{add-one}
 use denote.Ref.{now}
 use mathlib.Core.Path.{_≡_, refl}
 use lib.ListN.{length, drop}
-use Rattle.leaf_scans.specs.Scan.{clearLen}
-use Rattle.leaf_scans.proofs.ScanLaws.{clear-on, clear-first, clear-second, clear-end}
-use Rattle.leaf_scans.proofs.find_near.Statement.{statement}
-use Rattle.leaf_scans.proofs.find_near.Tie as tie
+use Rattle.leaf_words.specs.Scan.{clearLen}
+use Rattle.leaf_words.proofs.ScanLaws.{clear-on, clear-first, clear-second, clear-end}
+use Rattle.leaf_words.proofs.find_near.Statement.{statement}
+use Rattle.leaf_words.proofs.find_near.Tie as tie
 
 abbrev Inv-loop : tie.InvT-loop
 Inv-loop text from a b i₀ i = i + clearLen a b (drop i text) ≡ from + clearLen a b (drop from text)

@@ -8,10 +8,11 @@ use mathlib.Core.Bool.{Bool, true, false, cond, _||_}
 use mathlib.Core.List.{List, [], _∷_}
 use lib.ListN.{length, replicate}
 use lib.Dec.{eqb}
-use lib.Bits.{bitAnd, bitOr, bitXor, and-le-l, and-le-r, and-comm, and-mask, and-shifted, or-comm, or-lt, or-self, or-add-and, xor-lt, xor-self, xor-add-and, and-block, or-block, xor-block, shifted-half, shifted-even}
+use lib.Bits.{bitAnd, bitOr, bitXor, and-le-l, and-le-r, and-comm, and-mask, and-shifted, or-comm, or-lt, or-self, or-add-and, xor-lt, xor-self, xor-add-and}
+use lib.Bits.{and-block, or-block, xor-block, shifted-half, shifted-even}
 use lib.Count.{trailingZeros}
-use Rattle.leaf_scans.specs.Scan.{clearLen, word}
-use Rattle.leaf_scans.proofs.WordLaws.{Bytes}
+use Rattle.leaf_words.specs.Scan.{clearLen, word}
+use Rattle.leaf_words.proofs.WordLaws.{Bytes}
 
 -- c above n bytes
 abbrev above : ℕ → ℕ → ℕ
