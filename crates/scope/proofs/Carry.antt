@@ -16,7 +16,8 @@ use Rattle.scope.specs.declared.Reason.{Reason}
 use Rattle.scope.specs.declared.Found.{Found}
 use Rattle.scope.specs.declared.Found.the-variants.{At, Nowhere}
 use Rattle.scope.specs.Records.{lookupFrom, lookup}
-use Rattle.scope.specs.Values.{Read, good, bad, onRead, Took, took, refused, onTook, onFound, nameFrom, optionalFrom, asNumber, numberFrom, numberOr, asSwallowed, swallowedFrom, flagFrom, PairFields, pairOf}
+use Rattle.scope.specs.Values.{Read, good, bad, onRead, Took, took, refused, onTook, onFound, nameFrom, optionalFrom, asNumber, numberFrom, numberOr}
+use Rattle.scope.specs.Values.{asSwallowed, swallowedFrom, flagFrom, PairFields, pairOf}
 use Rattle.scope.specs.Spelling.{wordTrue, wordFalse}
 use Rattle.scope.specs.Bare.{forget, forgetMaybe}
 

@@ -27,10 +27,19 @@ use Rattle.scope.specs.declared.Operator.{Operator}
 use Rattle.scope.specs.declared.Operator.the-variants.{And, Or}
 use Rattle.scope.specs.declared.Value.{Value}
 use Rattle.scope.specs.declared.Value.the-variants.{Number, Status}
-use Rattle.scope.specs.Records.{Network, Node, NodeKind, junction, reservoir, tank, Place, Link, LinkKind, pipe, pump, valve, Point, Multiplier, Demand, Rule, Clause, condition, action, zeroF, countsOf}
-use Rattle.scope.specs.Tables.{flat, region, blocks, idWords, nameWords, flag, indexNo, countWords, pipeStatusNo, statusNo, typeNo, targetNo, comparisonNo, operatorNo, valueNo, valueNumber, kindWords, kindNumbers, placed, placeNumbers, nodeWords, nodeNumbers, linkKindWords, linkWords, linkNumbersOf, linkNumbers, pointWords, pointNumbers, multiplierWords, multiplierNumbers, demandWords, demandNumbers, ruleWords, clauseWords, clauseNumbers, wordBlocks, numberBlocks, tallyWords, wordsOf, numbersOf}
-use Rattle.scope.specs.Layout.{clauseNumbersLong, clauseNumbersWidth, clausesWidth, clausesLong, curvesLong, demandNumbersLong, demandNumbersWidth, demandsWidth, demandsLong, idWidth, linkNumbersLong, linkNumbersWidth, linksWidth, linksLong, multiplierNumbersLong, multiplierNumbersWidth, multipliersWidth, multipliersLong, nodeNumbersLong, nodeNumbersWidth, nodesWidth, nodesLong, patternsLong, pointNumbersLong, pointNumbersWidth, pointsWidth, pointsLong, rulesWidth, rulesLong, timesWidth, timesLong, curvesWidth, patternsWidth}
-use Rattle.scope.proofs.Widths.{name-long, count-long, kind-long, kind-numbers-long, node-long, node-numbers-long, link-long, link-numbers-long, demand-long, rule-long, clause-long, clause-numbers-long}
+use Rattle.scope.specs.Records.{Network, Node, NodeKind, junction, reservoir, tank, Place, Link, LinkKind, pipe, pump, valve, Point, Multiplier, Demand}
+use Rattle.scope.specs.Records.{Rule, Clause, condition, action, zeroF, countsOf}
+use Rattle.scope.specs.Tables.{flat, region, blocks, idWords, nameWords, flag, indexNo, countWords, pipeStatusNo, statusNo, typeNo, targetNo, comparisonNo}
+use Rattle.scope.specs.Tables.{operatorNo, valueNo, valueNumber, kindWords, kindNumbers, placed, placeNumbers, nodeWords, nodeNumbers, linkKindWords}
+use Rattle.scope.specs.Tables.{linkWords, linkNumbersOf, linkNumbers, pointWords, pointNumbers, multiplierWords, multiplierNumbers, demandWords}
+use Rattle.scope.specs.Tables.{demandNumbers, ruleWords, clauseWords, clauseNumbers, wordBlocks, numberBlocks, tallyWords, wordsOf, numbersOf}
+use Rattle.scope.specs.Layout.{clauseNumbersLong, clauseNumbersWidth, clausesWidth, clausesLong, curvesLong, demandNumbersLong, demandNumbersWidth}
+use Rattle.scope.specs.Layout.{demandsWidth, demandsLong, idWidth, linkNumbersLong, linkNumbersWidth, linksWidth, linksLong, multiplierNumbersLong}
+use Rattle.scope.specs.Layout.{multiplierNumbersWidth, multipliersWidth, multipliersLong, nodeNumbersLong, nodeNumbersWidth, nodesWidth, nodesLong}
+use Rattle.scope.specs.Layout.{patternsLong, pointNumbersLong, pointNumbersWidth, pointsWidth, pointsLong, rulesWidth, rulesLong, timesWidth, timesLong}
+use Rattle.scope.specs.Layout.{curvesWidth, patternsWidth}
+use Rattle.scope.proofs.Widths.{name-long, count-long, kind-long, kind-numbers-long, node-long, node-numbers-long, link-long, link-numbers-long}
+use Rattle.scope.proofs.Widths.{demand-long, rule-long, clause-long, clause-numbers-long}
 use Rattle.scope.specs.Written.{Sits, SitsOr, NodeKindWritten, NodeWritten, LinkKindWritten, LinkWritten, ClauseWritten, Written}
 
 -- ---- lists
@@ -388,18 +397,26 @@ encoding text m q s t ew ef =
     let (fMultipliers, f) = region-split multiplierNumbers multiplierNumbersWidth (λ p. refl) zeroF multiplierNumbersLong (m .multipliers) (q .multipliers) (nth 5 c) f in
     let (fDemands, f) = region-split demandNumbers demandNumbersWidth (λ d. refl) zeroF demandNumbersLong (m .demands) (q .demands) (nth 6 c) f in
     let (fClauses, f) = region-split clauseNumbers clauseNumbersWidth clause-numbers-long zeroF clauseNumbersLong (m .clauses) (q .clauses) (nth 8 c) f in
-    let nodes = records-equal (NodeWritten text) nodeWords nodeNumbers nodesWidth nodeNumbersWidth node-long node-numbers-long (node-equal text) (m .nodes) (q .nodes) (s .nodes) (t .nodes) (nth 0 c) wNodes fNodes in
-    let links = records-equal (LinkWritten text) linkWords linkNumbers linksWidth linkNumbersWidth link-long link-numbers-long (link-equal text) (m .links) (q .links) (s .links) (t .links) (nth 1 c) wLinks fLinks in
+    let nodes = records-equal (NodeWritten text) nodeWords nodeNumbers nodesWidth nodeNumbersWidth node-long node-numbers-long (node-equal text) (m .nodes)
+    (q .nodes) (s .nodes) (t .nodes) (nth 0 c) wNodes fNodes in
+    let links = records-equal (LinkWritten text) linkWords linkNumbers linksWidth linkNumbersWidth link-long link-numbers-long (link-equal text) (m .links)
+    (q .links) (s .links) (t .links) (nth 1 c) wLinks fLinks in
     let names = records-equal (Sits text) idWords noNumbers idWidth 0 (λ n. refl) (λ n. refl) (λ a b x y e g. id-equal text a b x y e) in
     let curves = names (m .curves) (q .curves) (s .curves) (t .curves) (nth 2 c) wCurves (flat-none (m .curves) (q .curves) (nth 2 c)) in
-    let points = records-equal (λ p. Unit {0}) pointWords pointNumbers pointsWidth pointNumbersWidth (λ p. refl) (λ p. refl) point-equal (m .points) (q .points) (each-any (m .points)) (each-any (q .points)) (nth 3 c) wPoints fPoints in
+    let points = records-equal (λ p. Unit {0}) pointWords pointNumbers pointsWidth pointNumbersWidth (λ p. refl) (λ p. refl) point-equal (m .points) (q .points)
+    (each-any (m .points)) (each-any (q .points)) (nth 3 c) wPoints fPoints in
     let patterns = names (m .patterns) (q .patterns) (s .patterns) (t .patterns) (nth 4 c) wPatterns (flat-none (m .patterns) (q .patterns) (nth 4 c)) in
-    let multipliers = records-equal (λ p. Unit {0}) multiplierWords multiplierNumbers multipliersWidth multiplierNumbersWidth (λ p. refl) (λ p. refl) multiplier-equal (m .multipliers) (q .multipliers) (each-any (m .multipliers)) (each-any (q .multipliers)) (nth 5 c) wMultipliers fMultipliers in
-    let demands = records-equal (λ (d : Demand). SitsOr text (d .pattern)) demandWords demandNumbers demandsWidth demandNumbersWidth demand-long (λ d. refl) (demand-equal text) (m .demands) (q .demands) (s .demands) (t .demands) (nth 6 c) wDemands fDemands in
+    let multipliers = records-equal (λ p. Unit {0}) multiplierWords multiplierNumbers multipliersWidth multiplierNumbersWidth (λ p. refl) (λ p. refl)
+    multiplier-equal (m .multipliers) (q .multipliers) (each-any (m .multipliers)) (each-any (q .multipliers)) (nth 5 c) wMultipliers fMultipliers in
+    let demands = records-equal (λ (d : Demand). SitsOr text (d .pattern)) demandWords demandNumbers demandsWidth demandNumbersWidth demand-long (λ d. refl)
+    (demand-equal text) (m .demands) (q .demands) (s .demands) (t .demands) (nth 6 c) wDemands fDemands in
     let six = s .times ∙ sym (t .times) in
-    let times = records-equal (λ n. Unit {0}) countWords noNumbers timesWidth 0 count-long (λ n. refl) (λ a b x y e g. count-equal a b e) (m .times) (q .times) (each-any (m .times)) (each-any (q .times)) six wTimes (flat-none (m .times) (q .times) six) in
-    let rules = records-equal (λ (r : Rule). Sits text (r .id)) ruleWords noNumbers rulesWidth 0 rule-long (λ r. refl) (λ a b x y e g. rule-equal text a b x y e) (m .rules) (q .rules) (s .rules) (t .rules) (nth 7 c) wRules (flat-none (m .rules) (q .rules) (nth 7 c)) in
-    let clauses = records-equal (ClauseWritten text) clauseWords clauseNumbers clausesWidth clauseNumbersWidth clause-long clause-numbers-long (clause-equal text) (m .clauses) (q .clauses) (s .clauses) (t .clauses) (nth 8 c) wClauses fClauses in
+    let times = records-equal (λ n. Unit {0}) countWords noNumbers timesWidth 0 count-long (λ n. refl) (λ a b x y e g. count-equal a b e) (m .times) (q .times)
+    (each-any (m .times)) (each-any (q .times)) six wTimes (flat-none (m .times) (q .times) six) in
+    let rules = records-equal (λ (r : Rule). Sits text (r .id)) ruleWords noNumbers rulesWidth 0 rule-long (λ r. refl)
+    (λ a b x y e g. rule-equal text a b x y e) (m .rules) (q .rules) (s .rules) (t .rules) (nth 7 c) wRules (flat-none (m .rules) (q .rules) (nth 7 c)) in
+    let clauses = records-equal (ClauseWritten text) clauseWords clauseNumbers clausesWidth clauseNumbersWidth clause-long clause-numbers-long
+    (clause-equal text) (m .clauses) (q .clauses) (s .clauses) (t .clauses) (nth 8 c) wClauses fClauses in
     λ i. record {
       nodes = nodes i;
       links = links i;

@@ -14,7 +14,8 @@ use Rattle.scope_lines.proofs.Readings.{stopped-at}
 use Rattle.scope.specs.declared.Section.{Section}
 use Rattle.scope.specs.declared.Section.the-variants.{Junctions, Reservoirs, Tanks, Pipes, Pumps, Valves, Curves, Patterns, Demands, Emitters, Coordinates, Times, Rules, Passed}
 use Rattle.scope.specs.declared.Reason.{Reason}
-use Rattle.scope.specs.declared.Reason.the-variants.{Missing, Malformed, Used, NotFound, WrongKind, XFalls, UnknownWord, NoCondition, NoAction, NoId, TooLong, HighByte, BeyondReach, NoRoom, SmallTable}
+use Rattle.scope.specs.declared.Reason.the-variants.{Missing, Malformed, Used, NotFound, WrongKind, XFalls, UnknownWord, NoCondition, NoAction, NoId}
+use Rattle.scope.specs.declared.Reason.the-variants.{TooLong, HighByte, BeyondReach, NoRoom, SmallTable}
 use Rattle.scope.specs.Answers.{reasonNo}
 use Rattle.scope.specs.Records.{Network}
 use Rattle.scope.specs.Values.{Read, good, bad}

@@ -2,7 +2,9 @@
 use Prim.Native.Nat.{ℕ}
 use mathlib.Core.Bool.{Bool, true, false}
 use mathlib.Core.List.{List, [], _∷_, _++_}
-use Rattle.scope_lines.specs.Reader.{Sort, empty, heading, start, other, Verdict, good, bad, Stored, over, judged, Reader, Standing, standing, Reply, accepted, stopped, Own, itself, last, fresh, Outcome, still, filed, joins, closes, settle, ifOpen, ofStored, next, unless, stopAt, shut, act, step, endVerdict, read, ending, strict, after, surveyRecs}
+use Rattle.scope_lines.specs.Reader.{Sort, empty, heading, start, other, Verdict, good, bad, Stored, over, judged, Reader, Standing, standing, Reply, accepted}
+use Rattle.scope_lines.specs.Reader.{stopped, Own, itself, last, fresh, Outcome, still, filed, joins, closes, settle, ifOpen, ofStored, next, unless, stopAt}
+use Rattle.scope_lines.specs.Reader.{shut, act, step, endVerdict, read, ending, strict, after, surveyRecs}
 use Rattle.scope_lines.specs.Text.{Each, nothing, each}
 
 pub data VerdictKeeps {R : Type 0} (P : R → Type 0) : Verdict R → Type 0 where

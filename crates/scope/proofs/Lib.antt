@@ -8,12 +8,17 @@ pub mod LinkLaws
 pub mod SeriesLaws
 pub mod TimeLaws
 pub mod RuleLaws
--- no refusal has the number 0; a struck text is read
+-- no refusal has the number 0; a struck text is read; what the public functions say of a refused piece
 pub mod Fairness
 pub mod Struck
+pub mod Exactly
 -- names are written in the text; the tables lose nothing
 pub mod WrittenLaws
 pub mod Kept
 pub mod Readings
 pub mod Widths
 pub mod Encoding
+-- what a group that is taken stores, and that it stays
+pub mod Untouched
+pub mod GroupLaws
+pub mod Taken

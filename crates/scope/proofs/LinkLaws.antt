@@ -17,9 +17,12 @@ use Rattle.scope.specs.Spelling.{wordSpeed, wordHead, wordPower}
 use Rattle.scope.specs.Sections.{roomLinks}
 use Rattle.scope.specs.Records.{Network, LinkKind, pipe, pump, valve, Pump, zeroF, withLinks, linkIds, lookup}
 use Rattle.scope.specs.Values.{Took, asSwallowed}
-use Rattle.scope.specs.Links.{Ends, newLink, endsOf, addLink, LinkFields, linkFields, storeLink, statusIn, pipeOf, pipeStep, oneF, noPump, withSpeed, withPower, withPair, pumpFrom, pumpStep, typeOf, Setting, settingTook, curveTook, settingFrom, overriding, valveOf, valveStep}
+use Rattle.scope.specs.Links.{Ends, newLink, endsOf, addLink, LinkFields, linkFields, storeLink, statusIn, pipeOf, pipeStep, oneF, noPump, withSpeed}
+use Rattle.scope.specs.Links.{withPower, withPair, pumpFrom, pumpStep, typeOf, Setting, settingTook, curveTook, settingFrom, overriding, valveOf}
+use Rattle.scope.specs.Links.{valveStep}
 use Rattle.scope.specs.Bare.{forget, forgetMaybe, forgetLink, forgetLinkKind, bare}
-use Rattle.scope.proofs.Carry.{ReadLike, goods, bads, TookLike, tooks, refuseds, itself, same-read, on-took, on-read, on-found, on-cond, on-if, name, optional, number-from, swallowed, lookup-ids}
+use Rattle.scope.proofs.Carry.{ReadLike, goods, bads, TookLike, tooks, refuseds, itself, same-read, on-took, on-read, on-found, on-cond, on-if, name}
+use Rattle.scope.proofs.Carry.{optional, number-from, swallowed, lookup-ids}
 use Rattle.scope.proofs.NodeLaws.{node-found}
 
 -- ---- any link

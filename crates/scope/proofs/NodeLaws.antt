@@ -14,7 +14,9 @@ use Rattle.scope.specs.Spelling.{zeroText, signStar}
 use Rattle.scope.specs.Sections.{roomNodes, roomDemands}
 use Rattle.scope.specs.Records.{Network, Node, NodeKind, junction, reservoir, tank, Place, Demand, noNode, zeroF, withNodes, withDemands, nodeIds, lookup}
 use Rattle.scope.specs.Values.{good, bad}
-use Rattle.scope.specs.Nodes.{JunctionFields, junctionOf, junctionNode, junctionDemand, withJunction, addJunction, junctionStep, addNode, reservoirOf, reservoirStep, curveIn, overflowIn, tankNode, levelsOf, reservoirOr, tankOf, tankStep, onJunction, changeNode, emitting, EmitterFields, emitterOf, setEmitter, emitterStep, standing, setPlace, coordinatesStep}
+use Rattle.scope.specs.Nodes.{JunctionFields, junctionOf, junctionNode, junctionDemand, withJunction, addJunction, junctionStep, addNode, reservoirOf}
+use Rattle.scope.specs.Nodes.{reservoirStep, curveIn, overflowIn, tankNode, levelsOf, reservoirOr, tankOf, tankStep, onJunction, changeNode, emitting}
+use Rattle.scope.specs.Nodes.{EmitterFields, emitterOf, setEmitter, emitterStep, standing, setPlace, coordinatesStep}
 use Rattle.scope.specs.Bare.{forget, forgetMaybe, forgetNode, forgetNodeKind, forgetDemand, bare}
 use Rattle.scope.proofs.Carry.{ReadLike, goods, bads, on-took, on-read, on-found, on-cond, name, optional, number-from, number-or, swallowed, flag-from, pair-of, lookup-ids, map-set}
 

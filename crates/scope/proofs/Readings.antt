@@ -17,7 +17,9 @@ use Rattle.scope.specs.Values.{Read}
 use Rattle.scope.specs.Lines.{sectionFields, ruleFields, verdict, stepOf, inp}
 use Rattle.scope.specs.Reading.{atStart, strictOf, surveyed, networkIn, allLow, strictNetwork, surveyNetwork}
 use Rattle.scope.specs.Written.{Sits, Written}
-use Rattle.scope.proofs.WrittenLaws.{Fine, goodly, badly, junction-step, reservoir-step, tank-step, pipe-step, pump-step, valve-step, curve-step, pattern-step, demand-step, emitter-step, coordinates-step, times-step, group-written, resolved-written, rule-sit, section-sit}
+use Rattle.scope.proofs.WrittenLaws.{Fine, goodly, badly, junction-step, reservoir-step, tank-step, pipe-step, pump-step, valve-step, curve-step}
+use Rattle.scope.proofs.WrittenLaws.{pattern-step, demand-step, emitter-step, coordinates-step, times-step, group-written, resolved-written, rule-sit}
+use Rattle.scope.proofs.WrittenLaws.{section-sit}
 use Rattle.scope.proofs.Kept.{VerdictKeeps, keeps, refuses, StoredKeeps, passes, judges, Keeps, recsIn, survey-keeps, strict-keeps}
 
 module _ (text : List ℕ) where

@@ -16,7 +16,9 @@ use Rattle.scope.specs.Sections.{roomRules, roomClauses}
 use Rattle.scope.specs.Records as R
 use Rattle.scope.specs.Records.{Network, LinkKind, pipe, pump, valve, Rule, Clause, condition, action, withRules, withClauses, ruleIds, lookup, noLink}
 use Rattle.scope.specs.Values.{countFrom}
-use Rattle.scope.specs.Rules.{systemTarget, nodeTarget, tankTarget, linkTarget, Aim, aimed, systemFrom, namedFrom, isLinkWord, aimFrom, comparisonOf, isTime, measured, valueOf, conditionOf, kindFits, deedOf, actionOf, Draft, noDraft, withClause, conditioned, acted, anded, lineOf, linesOf, isCondition, isAction, some?, withRule, addRule, named, judged, groupStep}
+use Rattle.scope.specs.Rules.{systemTarget, nodeTarget, tankTarget, linkTarget, Aim, aimed, systemFrom, namedFrom, isLinkWord, aimFrom, comparisonOf}
+use Rattle.scope.specs.Rules.{isTime, measured, valueOf, conditionOf, kindFits, deedOf, actionOf, Draft, noDraft, withClause, conditioned, acted, anded}
+use Rattle.scope.specs.Rules.{lineOf, linesOf, isCondition, isAction, some?, withRule, addRule, named, judged, groupStep}
 use Rattle.scope.specs.Bare.{forget, forgetMaybe, forgetLink, forgetLinkKind, forgetRule, forgetClause, forgetCondition, forgetAction, bare}
 use Rattle.scope.proofs.Carry.{ReadLike, goods, bads, TookLike, tooks, refuseds, itself, same-read, on-took, on-read, on-found, on-cond, on-if, took-if, name, lookup-ids}
 use Rattle.scope.proofs.LinkLaws.{link-found}

@@ -15,7 +15,9 @@ use Rattle.scope.specs.Sections.{roomCurves, roomPoints, roomPatterns, r
 use Rattle.scope.specs.Records.{Network, Node, NodeKind, junction, reservoir, tank, Demand, noNode, withNodes, withCurves, withPatterns, withDemands}
 use Rattle.scope.specs.Values.{bad}
 use Rattle.scope.specs.Nodes.{onJunction}
-use Rattle.scope.specs.Series.{lastX, falls, withPoint, addPoint, curveStep, multipliersOf, PatternFields, patternOf, withValues, fitting, addPattern, patternStep, ownFrom, DemandFields, demandOf, demandAt, addDemand, setDemand, demandStep, placeIn, indexOf, resolvedKind, resolvedNode, resolvedDemand, resolved}
+use Rattle.scope.specs.Series.{lastX, falls, withPoint, addPoint, curveStep, multipliersOf, PatternFields, patternOf, withValues, fitting, addPattern}
+use Rattle.scope.specs.Series.{patternStep, ownFrom, DemandFields, demandOf, demandAt, addDemand, setDemand, demandStep, placeIn, indexOf, resolvedKind}
+use Rattle.scope.specs.Series.{resolvedNode, resolvedDemand, resolved}
 use Rattle.scope.specs.Bare.{forget, forgetMaybe, forgetNode, forgetNodeKind, forgetDemand, bare}
 use Rattle.scope.proofs.Carry.{ReadLike, goods, bads, itself, on-took, on-read, on-found, on-cond, on-if, name, optional, number-from, as-number, pair-of, lookup-forget, map-square, map-set}
 use Rattle.scope.proofs.NodeLaws.{node-found, node-at, demands-long}

@@ -7,7 +7,8 @@ use mathlib.Core.Option.{Option, none, some}
 use lib.ListN.{length, length-append}
 use Rattle.leaf_fields.specs.Fields.{Name}
 use Rattle.scope.specs.Records.{Node, NodeKind, junction, reservoir, tank, Place, Link, LinkKind, pipe, pump, valve, Demand, Rule, Clause, condition, action}
-use Rattle.scope.specs.Tables.{nameWords, countWords, flag, indexNo, kindWords, kindNumbers, placed, placeNumbers, nodeWords, nodeNumbers, linkKindWords, linkWords, linkNumbersOf, linkNumbers, demandWords, ruleWords, clauseWords, clauseNumbers}
+use Rattle.scope.specs.Tables.{nameWords, countWords, flag, indexNo, kindWords, kindNumbers, placed, placeNumbers, nodeWords, nodeNumbers, linkKindWords}
+use Rattle.scope.specs.Tables.{linkWords, linkNumbersOf, linkNumbers, demandWords, ruleWords, clauseWords, clauseNumbers}
 use Rattle.scope.specs.Layout.{nameWidth, timesWidth, nodesWidth, nodeNumbersWidth, linksWidth, linkNumbersWidth, demandsWidth, rulesWidth, clausesWidth, clauseNumbersWidth}
 
 pub name-long : (n : Option Name) → length (nameWords n) ≡ nameWidth

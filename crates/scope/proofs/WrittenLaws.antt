@@ -29,16 +29,23 @@ use Rattle.scope.specs.declared.TimeOption.{TimeOption}
 use Rattle.scope.specs.declared.TimeOption.the-variants.{Duration, HydraulicTimestep, PatternTimestep, ReportTimestep, PatternStart, StartClocktime, Dropped}
 use Rattle.scope.specs.declared.ValveType.{ValveType}
 use Rattle.scope.specs.declared.ValveType.the-variants.{Gpv, Tcv, Fcv, Prv, Psv, Pbv, Pcv}
-use Rattle.scope.specs.Spelling.{zeroText, signStar, wordTrue, wordFalse, wordSpeed, wordHead, wordPower, wordSystem, wordNode, wordTank, wordIs, wordRule, wordIf, wordAnd, wordOr, wordThen, wordElse, wordPriority}
+use Rattle.scope.specs.Spelling.{zeroText, signStar, wordTrue, wordFalse, wordSpeed, wordHead, wordPower, wordSystem, wordNode, wordTank, wordIs, wordRule}
+use Rattle.scope.specs.Spelling.{wordIf, wordAnd, wordOr, wordThen, wordElse, wordPriority}
 use Rattle.scope.specs.Sections.{roomNodes, roomDemands, roomLinks, roomCurves, roomPoints, roomPatterns, roomRules, roomClauses}
 use Rattle.scope.specs.Records as R
 use Rattle.scope.specs.Records.{Network, Node, NodeKind, junction, reservoir, tank, LinkKind, pump, Pump, Demand, Condition, Action, noNode, zeroF, nodeIds, linkIds, ruleIds, lookup, noLink}
-use Rattle.scope.specs.Values.{Read, good, bad, onRead, Took, took, refused, onTook, onFound, nameFrom, optionalFrom, asNumber, numberFrom, numberOr, asSwallowed, swallowedFrom, flagFrom, countFrom, PairFields, pairOf}
-use Rattle.scope.specs.Nodes.{JunctionFields, junctionOf, addJunction, junctionStep, addNode, reservoirOf, reservoirStep, curveIn, levelsOf, reservoirOr, tankOf, tankStep, onJunction, emitting, emitterOf, setEmitter, emitterStep, standing, setPlace, coordinatesStep}
-use Rattle.scope.specs.Links.{Ends, endsOf, addLink, LinkFields, storeLink, pipeOf, pipeStep, noPump, withSpeed, withPower, withPair, oneF, pumpFrom, pumpStep, typeOf, Setting, settingTook, curveTook, settingFrom, overriding, valveOf, valveStep}
-use Rattle.scope.specs.Series.{lastX, falls, addPoint, curveStep, multipliersOf, PatternFields, patternOf, fitting, addPattern, patternStep, ownFrom, DemandFields, demandOf, addDemand, setDemand, demandStep, resolvedKind, resolvedNode, resolvedDemand, resolved}
+use Rattle.scope.specs.Values.{Read, good, bad, onRead, Took, took, refused, onTook, onFound, nameFrom, optionalFrom, asNumber, numberFrom, numberOr}
+use Rattle.scope.specs.Values.{asSwallowed, swallowedFrom, flagFrom, countFrom, PairFields, pairOf}
+use Rattle.scope.specs.Nodes.{JunctionFields, junctionOf, addJunction, junctionStep, addNode, reservoirOf, reservoirStep, curveIn, levelsOf, reservoirOr}
+use Rattle.scope.specs.Nodes.{tankOf, tankStep, onJunction, emitting, emitterOf, setEmitter, emitterStep, standing, setPlace, coordinatesStep}
+use Rattle.scope.specs.Links.{Ends, endsOf, addLink, LinkFields, storeLink, pipeOf, pipeStep, noPump, withSpeed, withPower, withPair, oneF, pumpFrom}
+use Rattle.scope.specs.Links.{pumpStep, typeOf, Setting, settingTook, curveTook, settingFrom, overriding, valveOf, valveStep}
+use Rattle.scope.specs.Series.{lastX, falls, addPoint, curveStep, multipliersOf, PatternFields, patternOf, fitting, addPattern, patternStep, ownFrom}
+use Rattle.scope.specs.Series.{DemandFields, demandOf, addDemand, setDemand, demandStep, resolvedKind, resolvedNode, resolvedDemand, resolved}
 use Rattle.scope.specs.Times.{setTime, timesOf, timesStep}
-use Rattle.scope.specs.Rules.{systemTarget, nodeTarget, tankTarget, linkTarget, Aim, aimed, systemFrom, namedFrom, isLinkWord, aimFrom, comparisonOf, valueOf, conditionOf, kindFits, deedOf, actionOf, Draft, noDraft, conditioned, acted, anded, lineOf, linesOf, isCondition, isAction, some?, addRule, named, judged, groupStep}
+use Rattle.scope.specs.Rules.{systemTarget, nodeTarget, tankTarget, linkTarget, Aim, aimed, systemFrom, namedFrom, isLinkWord, aimFrom, comparisonOf}
+use Rattle.scope.specs.Rules.{valueOf, conditionOf, kindFits, deedOf, actionOf, Draft, noDraft, conditioned, acted, anded, lineOf, linesOf, isCondition}
+use Rattle.scope.specs.Rules.{isAction, some?, addRule, named, judged, groupStep}
 use Rattle.scope.specs.Written.{Sits, SitsOr, NodeKindWritten, NodeWritten, LinkKindWritten, ClauseWritten, Written}
 
 -- ---- what is read is fine
@@ -58,15 +65,15 @@ module _ {B : Type 0} {P : B → Type 0} where
   from-read (goodly {a} q) h = h a q
   from-read badly h = badly
 
-  from-found : (t : Found) {k : ℕ → Read B} {b : Read B} → ((i : ℕ) → Fine P (k i)) → Fine P b → Fine P (onFound t k b)
+  pub from-found : (t : Found) {k : ℕ → Read B} {b : Read B} → ((i : ℕ) → Fine P (k i)) → Fine P b → Fine P (onFound t k b)
   from-found (At i) h d = h i
   from-found Nowhere h d = d
 
-  from-if : (t : Bool) {x y : Read B} → Fine P x → Fine P y → Fine P (cond t x y)
+  pub from-if : (t : Bool) {x y : Read B} → Fine P x → Fine P y → Fine P (cond t x y)
   from-if true p q = p
   from-if false p q = q
 
-  from-junction : (k : NodeKind) {f : R.Junction → Read B} {b : Read B} → ((j : R.Junction) → Fine P (f j)) → Fine P b → Fine P (onJunction k f b)
+  pub from-junction : (k : NodeKind) {f : R.Junction → Read B} {b : Read B} → ((j : R.Junction) → Fine P (f j)) → Fine P b → Fine P (onJunction k f b)
   from-junction (junction j) h d = h j
   from-junction (reservoir r) h d = d
   from-junction (tank t) h d = d

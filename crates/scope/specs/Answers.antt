@@ -1,7 +1,8 @@
 -- Document 01, "Numbers of the answers": the number of each reason. 0 is no reason. Assumes nothing.
 use Prim.Native.Nat.{ℕ}
 use Rattle.scope.specs.declared.Reason.{Reason}
-use Rattle.scope.specs.declared.Reason.the-variants.{Missing, Malformed, Used, NotFound, WrongKind, XFalls, UnknownWord, NoCondition, NoAction, NoId, TooLong, HighByte, BeyondReach, NoRoom, SmallTable}
+use Rattle.scope.specs.declared.Reason.the-variants.{Missing, Malformed, Used, NotFound, WrongKind, XFalls, UnknownWord, NoCondition, NoAction, NoId}
+use Rattle.scope.specs.declared.Reason.the-variants.{TooLong, HighByte, BeyondReach, NoRoom, SmallTable}
 
 abbrev pub reasonNo : Reason → ℕ
 reasonNo Missing = 1  -- a required field is missing

@@ -1,5 +1,5 @@
 -- Document 01, "Room", and docs/LAYOUT.md: how many records of each kind there is room for, which places a record takes in the two lent tables, and where its region
--- starts. Nothing else says so: a place is the place before it plus what stands there. The code has the same in crates/tables/src; the program `layout` proves that the two
+-- starts. Nothing else says so: a place is the place before it plus what stands there. The code has the same in crates/table_rows/src; `table_layout` proves that the two
 -- agree. Assumes nothing.
 use Prim.Native.Nat.{ℕ, _+_, _*_}
 use Rattle.scope.specs.Sections.{roomNodes, roomLinks, roomCurves, roomPoints, roomPatterns, roomMultipliers, roomDemands, roomRules, roomClauses}

@@ -22,4 +22,5 @@ pub mod Reading
 pub mod Bare
 pub mod Promises
 pub mod Written
+pub mod Groups
 pub mod Rows

@@ -1,13 +1,11 @@
--- Document 01, "Lines and groups": what each line of a text does. The crate `lines` says how lines and groups follow one another; this is what a line is and what a
+-- Document 01, "Lines and groups": what each line of a text does. The crate `scope_lines` says how lines and groups follow one another; this is what a line is and what a
 -- section's line or a group stores. Assumes nothing.
 use Prim.Native.Nat.{ℕ}
 use mathlib.Core.Bool.{cond}
 use mathlib.Core.List.{List, map}
 use Rattle.leaf_fields.specs.Fields.{Name, fieldsOf}
-use Rattle.leaf_scans.specs.Lines.{trimmed, lineKind, cutOf}
+use Rattle.leaf_scans.specs.Lines.{trimmed, LineKind, blank, header, other, lineKind, cutOf}
 use Rattle.leaf_letters.specs.Words.{begins}
-use Rattle.leaf_scans.specs.declared.LineKind.{LineKind}
-use Rattle.leaf_scans.specs.declared.LineKind.the-variants.{Blank, Header, Other}
 use Rattle.scope_lines.specs.Reader as L
 use Rattle.scope_lines.specs.Text.{Line}
 use Rattle.scope.specs.declared.Section.{Section}
@@ -25,9 +23,9 @@ use Rattle.scope.specs.Rules.{groupStep}
 
 -- ---- what a line is: blank; a header of a section; a line that starts with RULE, which matters in RULES alone; any other
 unfoldable pub sortBy : LineKind → List ℕ → L.Sort Section
-sortBy Blank w = L.empty
-sortBy Header w = L.heading (sectionOf w)
-sortBy Other w = cond (begins w wordRule) L.start L.other
+sortBy blank w = L.empty
+sortBy header w = L.heading (sectionOf w)
+sortBy other w = cond (begins w wordRule) L.start L.other
 
 unfoldable pub sortOf : List ℕ → L.Sort Section
 sortOf l = sortBy (lineKind l) (trimmed l)

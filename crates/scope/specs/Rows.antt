@@ -28,7 +28,8 @@ use Rattle.scope.specs.Answers.{reasonNo}
 use Rattle.scope.specs.Sections.{sectionOf, roomNodes}
 use Rattle.scope.specs.Records.{Network, Node, Link, LinkKind, pipe, pump, valve, Clause, condition, action, Demand, lookupFrom, noNetwork, noNode, withNodes}
 use Rattle.scope.specs.Values.{Read, good, bad, pairOf}
-use Rattle.scope.specs.Nodes.{junctionOf, addJunction, junctionStep, addNode, reservoirOf, reservoirStep, levelsOf, tankOf, tankStep, emitterOf, setEmitter, emitterStep, setPlace, coordinatesStep}
+use Rattle.scope.specs.Nodes.{junctionOf, addJunction, junctionStep, addNode, reservoirOf, reservoirStep, levelsOf, tankOf, tankStep, emitterOf}
+use Rattle.scope.specs.Nodes.{setEmitter, emitterStep, setPlace, coordinatesStep}
 use Rattle.scope.specs.Links.{endsOf, addLink, storeLink, pipeOf, pipeStep, withPair, pumpFrom, pumpStep, typeOf, settingFrom, valveOf, valveStep, oneF}
 use Rattle.scope.specs.Series.{lastX, addPoint, curveStep, multipliersOf, patternOf, addPattern, patternStep, ownFrom, demandOf, addDemand, setDemand, demandStep, resolved}
 use Rattle.scope.specs.Times.{optionOf, optionOfTwo, timesOf, timesStep}
@@ -210,5 +211,11 @@ record Right : Type 0 where
   last-tested : map (λ l. answerTo (addNode (aNode l) full)) ([] ∷ (65 ∷ []) ∷ []) ≡ 3 ∷ 23 ∷ []
 
 right : Right
-unfolding sampleTally rows stored linkNumbers linkStatus elses whole full aNode answerTo bytes sample records howMany clauses counts refusals tally marksOf surveyed surveyOf strictOf told networkIn surveyMarks surveyRecs strict code count pieceNo linesOf sectionOf lookupFrom junctionOf addJunction junctionStep addNode reservoirOf reservoirStep levelsOf tankOf tankStep setEmitter emitterOf emitterStep setPlace pairOf coordinatesStep endsOf addLink storeLink pipeOf pipeStep withPair pumpFrom pumpStep typeOf settingFrom valveOf valveStep lastX addPoint curveStep multipliersOf patternOf addPattern patternStep ownFrom addDemand setDemand demandOf demandStep resolved optionOf optionOfTwo timesOf timesStep aimFrom comparisonOf valueOf conditionOf kindFits deedOf actionOf lineOf rules.linesOf addRule judged groupStep sortBy sortOf stepOf inp trimmed lineKind cutOf startTrimmed endTrimmed fieldsOf same numberOf countOf timeOf clock.named colonForm hourOf inUnit colonAt withoutS unitOf meaning mul div ofInt ofBits neg lt
+unfolding sampleTally rows stored linkNumbers linkStatus elses whole full aNode answerTo bytes sample records howMany clauses counts refusals tally marksOf
+    surveyed surveyOf strictOf told networkIn surveyMarks surveyRecs strict code count pieceNo linesOf sectionOf lookupFrom junctionOf addJunction junctionStep
+    addNode reservoirOf reservoirStep levelsOf tankOf tankStep setEmitter emitterOf emitterStep setPlace pairOf coordinatesStep endsOf addLink storeLink pipeOf
+    pipeStep withPair pumpFrom pumpStep typeOf settingFrom valveOf valveStep lastX addPoint curveStep multipliersOf patternOf addPattern patternStep ownFrom
+    addDemand setDemand demandOf demandStep resolved optionOf optionOfTwo timesOf timesStep aimFrom comparisonOf valueOf conditionOf kindFits deedOf actionOf
+    lineOf rules.linesOf addRule judged groupStep sortBy sortOf stepOf inp trimmed lineKind cutOf startTrimmed endTrimmed fieldsOf same numberOf countOf timeOf
+    clock.named colonForm hourOf inUnit colonAt withoutS unitOf meaning mul div ofInt ofBits neg lt
 right = record { sampled = refl; closing = refl; answered = refl; speed = refl; check-valve = refl; afternoon = refl; else-stays = refl; replaced = refl; last-tested = refl }

@@ -24,7 +24,10 @@ use Rattle.scope.specs.declared.Operator.the-variants.{And, Or}
 use Rattle.scope.specs.declared.Value.{Value}
 use Rattle.scope.specs.declared.Value.the-variants.{Number, Status}
 use Rattle.scope.specs.declared.LinkStatus.the-variants.{Open, Closed, Active}
-use Rattle.scope.specs.Spelling.{wordRule, wordIf, wordAnd, wordOr, wordThen, wordElse, wordPriority, wordSystem, wordNode, wordTank, wordLink, wordPipe, wordValve, wordPump, wordDemand, wordTime, wordClocktime, wordHead, wordPressure, wordLevel, wordFilltime, wordDraintime, wordFlow, wordStatus, wordSetting, wordIs, signEquals, wordNot, signUnequal, wordAbove, signAbove, wordBelow, signBelow, signAtLeast, signAtMost, wordOpen, wordClosed, wordActive}
+use Rattle.scope.specs.Spelling.{wordRule, wordIf, wordAnd, wordOr, wordThen, wordElse, wordPriority, wordSystem, wordNode, wordTank, wordLink, wordPipe}
+use Rattle.scope.specs.Spelling.{wordValve, wordPump, wordDemand, wordTime, wordClocktime, wordHead, wordPressure, wordLevel, wordFilltime, wordDraintime}
+use Rattle.scope.specs.Spelling.{wordFlow, wordStatus, wordSetting, wordIs, signEquals, wordNot, signUnequal, wordAbove, signAbove, wordBelow, signBelow}
+use Rattle.scope.specs.Spelling.{signAtLeast, signAtMost, wordOpen, wordClosed, wordActive}
 use Rattle.scope.specs.Sections.{roomRules, roomClauses}
 use Rattle.scope.specs.Records.{Network, LinkKind, pipe, pump, valve, Clause, condition, action, Condition, Action, withRules, withClauses, linkIds, ruleIds, lookup, noLink}
 use Rattle.scope.specs.Values.{Read, good, bad, onRead, Took, took, refused, onTook, onFound, nameFrom, asNumber, countFrom, timeAt}

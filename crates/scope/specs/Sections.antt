@@ -5,7 +5,8 @@ use mathlib.Core.List.{List}
 use Rattle.leaf_letters.specs.Words.{same}
 use Rattle.scope.specs.declared.Section.{Section}
 use Rattle.scope.specs.declared.Section.the-variants.{Junctions, Reservoirs, Tanks, Pipes, Pumps, Valves, Curves, Patterns, Demands, Emitters, Coordinates, Times, Rules, Passed}
-use Rattle.scope.specs.Spelling.{headerJunctions, headerReservoirs, headerTanks, headerPipes, headerPumps, headerValves, headerCurves, headerPatterns, headerDemands, headerEmitters, headerCoordinates, headerTimes, headerRules}
+use Rattle.scope.specs.Spelling.{headerJunctions, headerReservoirs, headerTanks, headerPipes, headerPumps, headerValves, headerCurves, headerPatterns}
+use Rattle.scope.specs.Spelling.{headerDemands, headerEmitters, headerCoordinates, headerTimes, headerRules}
 
 -- "a header, matched exactly with its capitals": w is the trimmed line. TITLE, OPTIONS, STATUS, CONTROLS, VERTICES and an unknown header are passed over alike.
 unfoldable pub sectionOf : List ℕ → Section

@@ -12,7 +12,8 @@ use Rattle.scope.specs.declared.Reason.the-variants.{NotFound, WrongKind
 use Rattle.scope.specs.declared.Found.{Found}
 use Rattle.scope.specs.declared.Found.the-variants.{At, Nowhere}
 use Rattle.scope.specs.Sections.{roomCurves, roomPoints, roomPatterns, roomMultipliers, roomDemands}
-use Rattle.scope.specs.Records.{Network, Node, NodeKind, junction, reservoir, tank, Point, Multiplier, Demand, noNode, withNodes, withCurves, withPoints, withPatterns, withMultipliers, withDemands, nodeIds, lookup}
+use Rattle.scope.specs.Records.{Network, Node, NodeKind, junction, reservoir, tank, Point, Multiplier, Demand, noNode, withNodes, withCurves, withPoints}
+use Rattle.scope.specs.Records.{withPatterns, withMultipliers, withDemands, nodeIds, lookup}
 use Rattle.scope.specs.Values.{Read, good, bad, onRead, onTook, onFound, nameFrom, optionalFrom, numberFrom, asNumber, pairOf}
 use Rattle.scope.specs.Nodes.{onJunction}
 

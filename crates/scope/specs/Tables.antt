@@ -26,8 +26,11 @@ use Rattle.scope.specs.declared.Operator.the-variants.{And, Or}
 use Rattle.scope.specs.declared.Value.{Value}
 use Rattle.scope.specs.declared.Value.the-variants.{Number, Status}
 use Rattle.scope.specs.declared.Counts.{Counts}
-use Rattle.scope.specs.Records.{Network, Node, NodeKind, junction, reservoir, tank, Place, Link, LinkKind, pipe, pump, valve, Point, Multiplier, Demand, Rule, Clause, condition, action, zeroF, countsOf}
-use Rattle.scope.specs.Layout.{roomSlots, nodesLong, linksLong, curvesLong, pointsLong, patternsLong, multipliersLong, demandsLong, timesLong, rulesLong, clausesLong, nodeSlotsLong, linkSlotsLong, curveSlotsLong, patternSlotsLong, demandSlotsLong, nodeNumbersLong, linkNumbersLong, pointNumbersLong, multiplierNumbersLong, demandNumbersLong, clauseNumbersLong}
+use Rattle.scope.specs.Records.{Network, Node, NodeKind, junction, reservoir, tank, Place, Link, LinkKind, pipe, pump, valve, Point, Multiplier, Demand}
+use Rattle.scope.specs.Records.{Rule, Clause, condition, action, zeroF, countsOf}
+use Rattle.scope.specs.Layout.{roomSlots, nodesLong, linksLong, curvesLong, pointsLong, patternsLong, multipliersLong, demandsLong, timesLong, rulesLong}
+use Rattle.scope.specs.Layout.{clausesLong, nodeSlotsLong, linkSlotsLong, curveSlotsLong, patternSlotsLong, demandSlotsLong, nodeNumbersLong}
+use Rattle.scope.specs.Layout.{linkNumbersLong, pointNumbersLong, multiplierNumbersLong, demandNumbersLong, clauseNumbersLong}
 
 -- ---- regions
 unfoldable pub flat : {A R : Type 0} → (R → List A) → List R → List A

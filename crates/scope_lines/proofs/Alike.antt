@@ -4,7 +4,9 @@ use mathlib.Core.Bool.{Bool, true, false, cond}
 use mathlib.Core.List.{List, [], _∷_, _++_, map}
 use Prim.Native.Nat.{ℕ}
 use lib.Dec.{eqb}
-use Rattle.scope_lines.specs.Reader.{verdict, Sort, empty, heading, start, other, Verdict, good, bad, Stored, over, judged, Reader, Standing, standing, Still, Piece, Reply, accepted, stopped, Own, itself, last, fresh, Outcome, still, filed, joins, closes, settle, ifOpen, ofStored, next, unless, stopAt, shut, act, step, endVerdict, read, ending, strict, strictTo}
+use Rattle.scope_lines.specs.Reader.{verdict, Sort, empty, heading, start, other, Verdict, good, bad, Stored, over, judged, Reader, Standing, standing}
+use Rattle.scope_lines.specs.Reader.{Still, Piece, Reply, accepted, stopped, Own, itself, last, fresh, Outcome, still, filed, joins, closes, settle}
+use Rattle.scope_lines.specs.Reader.{ifOpen, ofStored, next, unless, stopAt, shut, act, step, endVerdict, read, ending, strict, strictTo}
 use Rattle.scope_lines.specs.Alike.{All2, nil, cons, VerdictLike, goods, bads, StoredLike, overs, judgeds, PieceLike, lines, groups, ReplyLike, accepteds, stoppeds, Alike, mapV, mapS, Erases}
 
 pub all2-snoc : {A B : Type 0} {_~_ : A → B → Type 0} {g : List A} {k : List B} {a : A} {b : B}

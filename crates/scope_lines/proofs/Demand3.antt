@@ -8,7 +8,8 @@ use mathlib.Core.List.{List, [], _∷_, _++_}
 use mathlib.Core.Logic.{_↔_}
 use Prim.Native.Nat.{ℕ, _+_}
 use lib.ListN.{length}
-use Rattle.scope_lines.specs.Reader.{Reader, Standing, standing, Mark, marked, refused, ruleRefused, unclosed, aLine, aGroup, accepted, stopped, strict, strictTo, after, marks, endFate, surveyMarks, surveyRecs, count}
+use Rattle.scope_lines.specs.Reader.{Reader, Standing, standing, Mark, marked, refused, ruleRefused, unclosed, aLine, aGroup, accepted, stopped, strict}
+use Rattle.scope_lines.specs.Reader.{strictTo, after, marks, endFate, surveyMarks, surveyRecs, count}
 use Rattle.scope_lines.specs.Text.{Line, linesOf, strikeText, renumber, SameBody, Moved}
 use Rattle.scope_lines.specs.Alike.{Alike}
 use Rattle.scope_lines.specs.Demand3.{markOf, Opens, upToStruck, TextGroupStop, textLine, textEnd, PlainGroupStop}

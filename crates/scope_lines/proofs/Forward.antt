@@ -4,7 +4,10 @@ use mathlib.Core.Path.{_≡_, refl, ap, ap₂, _∙_}
 use mathlib.Core.Bool.{Bool, true, false, cond}
 use mathlib.Core.List.{List, [], _∷_, _++_}
 use Rattle.scope_lines.proofs.Pieces.{fate-append}
-use Rattle.scope_lines.specs.Reader.{Verdict, good, bad, Reader, Standing, standing, Class, blank, header, passed, taken, refused, ruleTaken, ruleRefused, ruleOpen, Still, isBlank, isHeader, isPassed, stillClass, Mark, Fate, unclosed, approved, rejected, itself, last, fresh, Outcome, still, filed, joins, closes, fateOf, groupClass, next, fateAt, firstMark, groupMark, lineMark, marked, mark, step, endFate, after, fate, marks, surveyMarks}
+use Rattle.scope_lines.specs.Reader.{Verdict, good, bad, Reader, Standing, standing, Class, blank, header, passed, taken, refused, ruleTaken, ruleRefused}
+use Rattle.scope_lines.specs.Reader.{ruleOpen, Still, isBlank, isHeader, isPassed, stillClass, Mark, Fate, unclosed, approved, rejected, itself, last}
+use Rattle.scope_lines.specs.Reader.{fresh, Outcome, still, filed, joins, closes, fateOf, groupClass, next, fateAt, firstMark, groupMark, lineMark, marked}
+use Rattle.scope_lines.specs.Reader.{mark, step, endFate, after, fate, marks, surveyMarks}
 
 unfoldable pub isOpen : Class → Bool
 isOpen blank = false

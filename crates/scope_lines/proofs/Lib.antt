@@ -12,4 +12,6 @@ pub mod Cut
 pub mod Alike
 pub mod Pieces
 pub mod Stops
+pub mod Told
+pub mod OwnLines
 pub mod Strike

@@ -10,7 +10,9 @@ use lib.ListN.{length, take, drop, set, replicate, length-append, drop-of-length
 use lib.Dec.{eqb}
 use Rattle.leaf_scans.specs.Lines.{chunks, lineLen}
 use Rattle.leaf_scans.proofs.LineLaws.{body-long}
-use Rattle.scope_lines.specs.Reader.{Reader, Standing, standing, good, bad, Mark, unclosed, Outcome, still, filed, joins, closes, itself, last, fresh, settle, next, Piece, aLine, aGroup, Reply, stopped, unless, stopAt, step, read, ending, endVerdict, endFate, strict, after, marks, surveyMarks, surveyRecs, count}
+use Rattle.scope_lines.specs.Reader.{Reader, Standing, standing, good, bad, Mark, unclosed, Outcome, still, filed, joins, closes, itself, last, fresh}
+use Rattle.scope_lines.specs.Reader.{settle, next, Piece, aLine, aGroup, Reply, stopped, unless, stopAt, step, read, ending, endVerdict, endFate, strict}
+use Rattle.scope_lines.specs.Reader.{after, marks, surveyMarks, surveyRecs, count}
 use Rattle.scope_lines.specs.Text.{Line, linesOf, number, pieceNo, linesFrom, bodyAt, lineAt}
 use Rattle.scope_lines.specs.Turn.{refusalIn, fineIn, refusal, fine, closedBy, pieceBy, Tells}
 use Rattle.scope_lines.specs.Tables.{codeOf, reasonIn, marksIn, refilled, countIn}

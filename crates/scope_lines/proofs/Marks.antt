@@ -98,7 +98,8 @@ classes-refilled n f {old} new s =
     let d : length (old ++ new) - length old ≡ length new = omega (arith, length-append old new) in
     rw (map-append codeOf old new, refill-length false f (old ++ new), d, drop-at (a ++ b) z (length (old ++ new)) lab)
     (rw (append-assoc a b z) (rw (take-at a (b ++ z) (length old) la, drop-at a (b ++ z) (length old) la, take-at b z (length new) lb)
-    (ap (λ x. x ++ z) (ap (λ x. x ++ map (swapped k) b) (sym (shut-codes k s)) ∙ sym (map-append (swapped k) a b) ∙ ap (map (swapped k)) (sym (map-append codeOf old new)) ∙ sym (refill-codes false f (old ++ new))))))
+    (ap (λ x. x ++ z) (ap (λ x. x ++ map (swapped k) b) (sym (shut-codes k s)) ∙ sym (map-append (swapped k) a b)
+    ∙ ap (map (swapped k)) (sym (map-append codeOf old new)) ∙ sym (refill-codes false f (old ++ new))))))
 
 -- ---- the reasons
 

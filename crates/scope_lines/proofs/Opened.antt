@@ -8,7 +8,10 @@ use mathlib.Core.Bool.{Bool, true, false, cond, false≢true}
 use mathlib.Core.List.{List, [], _∷_, _++_, append-assoc}
 use lib.ListN.{length, set, length-append}
 use lib.Dec.{eqb}
-use Rattle.scope_lines.specs.Reader.{Reader, Standing, standing, Sort, empty, heading, start, other, Stored, over, judged, Verdict, good, bad, ruleOpen, refused, Own, Mark, marked, Fate, unclosed, approved, rejected, Outcome, still, filed, joins, closes, itself, last, fresh, fateOf, groupClass, reasonOf, fateAt, firstMark, groupMark, lineMark, mark, next, code, aGroup, ifOpen, ofStored, act, step}
+use Rattle.scope_lines.specs.Reader.{Reader, Standing, standing, Sort, empty, heading, start, other, Stored, over, judged, Verdict, good, bad, ruleOpen}
+use Rattle.scope_lines.specs.Reader.{refused, Own, Mark, marked, Fate, unclosed, approved, rejected, Outcome, still, filed, joins, closes, itself, last}
+use Rattle.scope_lines.specs.Reader.{fresh, fateOf, groupClass, reasonOf, fateAt, firstMark, groupMark, lineMark, mark, next, code, aGroup, ifOpen}
+use Rattle.scope_lines.specs.Reader.{ofStored, act, step}
 use Rattle.scope_lines.specs.Text.{Line, pieceNo}
 use Rattle.scope_lines.specs.Turn.{refusalIn, fineIn, refusal, fine, closedBy, pieceBy}
 use Rattle.scope_lines.specs.Tables.{codeOf, reasonIn, marksIn, refilled}
@@ -158,7 +161,8 @@ module _ {S R : Type 0} (s : S) (r : R) (l : Line) (n : ℕ) where
 
   pub class-turn : (o : Outcome S R) {g : List Line} {ms : List Mark} → Opened g ms → refill false unclosed ms ≡ ms
       → ((closedBy o ≡ 0 → ⊥) → 0 < pieceBy (standing s g r) l o) → length ms < n
-      → set (cond (eqb (closedBy o) 0) (marksIn codeOf n ms) (refilled (marksIn codeOf n ms) (pieceBy (standing s g r) l o - 1) (length ms) (closedBy o))) (length ms) (codeOf (mark (standing s g r) o unclosed))
+      → set (cond (eqb (closedBy o) 0) (marksIn codeOf n ms) (refilled (marksIn codeOf n ms) (pieceBy (standing s g r) l o - 1) (length ms) (closedBy o)))
+      (length ms) (codeOf (mark (standing s g r) o unclosed))
       ≡ marksIn codeOf n (nextMarks g o ms)
   unfolding fateAt closedBy pieceBy
   class-turn (still c x) {g} {ms} p z h k = ap (λ y. set (marksIn codeOf n y) (length ms) (codeOf (mark (standing s g r) (still c x) unclosed))) (sym z) ∙ set-class unclosed _ ms k

@@ -7,10 +7,15 @@ use mathlib.Core.List.{List, [], _∷_, _++_, append-nil, nil≢cons, head-eq-of
 use Prim.Native.Nat.{ℕ, suc, _+_}
 use native.Mathlib.Omega.{arith}
 use lib.ListN.{length, getD}
-use Rattle.scope_lines.specs.Demand3.{OpensBy, markOf, Opens}
+use Rattle.scope_lines.specs.Demand3.{OpensBy, ClosesBy, markOf, Opens}
 use Rattle.scope_lines.proofs.Stops.{GroupStop, atLine, atEnd, Stop, isLine, isGroup}
 use Rattle.scope_lines.proofs.Strike.{reads, TwinBy, Gone}
-use Rattle.scope_lines.specs.Reader.{Sort, empty, heading, start, other, Verdict, good, bad, Stored, over, judged, Reader, Standing, standing, Class, blank, header, passed, taken, refused, ruleTaken, ruleRefused, ruleOpen, code, tally, count, Still, isBlank, isHeader, isPassed, stillClass, Mark, Piece, aLine, aGroup, Reply, accepted, stopped, Fate, unclosed, approved, rejected, Own, itself, last, fresh, Outcome, still, filed, joins, closes, settle, fateOf, groupClass, reasonOf, ifOpen, ofStored, next, unless, stopAt, fateAt, firstMark, groupMark, lineMark, marked, mark, shut, act, step, endVerdict, endFate, read, ending, strict, strictTo, after, fate, marks, surveyMarks, strike}
+use Rattle.scope_lines.specs.Reader.{Sort, empty, heading, start, other, Verdict, good, bad, Stored, over, judged, Reader, Standing, standing, Class}
+use Rattle.scope_lines.specs.Reader.{blank, header, passed, taken, refused, ruleTaken, ruleRefused, ruleOpen, code, tally, count, Still, isBlank, isHeader}
+use Rattle.scope_lines.specs.Reader.{isPassed, stillClass, Mark, Piece, aLine, aGroup, Reply, accepted, stopped, Fate, unclosed, approved, rejected, Own}
+use Rattle.scope_lines.specs.Reader.{itself, last, fresh, Outcome, still, filed, joins, closes, settle, fateOf, groupClass, reasonOf, ifOpen, ofStored}
+use Rattle.scope_lines.specs.Reader.{next, unless, stopAt, fateAt, firstMark, groupMark, lineMark, marked, mark, shut, act, step, endVerdict, endFate}
+use Rattle.scope_lines.specs.Reader.{read, ending, strict, strictTo, after, fate, marks, surveyMarks, strike}
 
 -- ---- the classes
 
@@ -41,12 +46,6 @@ abbrev IsUnclosed : Fate → Type 0
 IsUnclosed unclosed = Unit {0}
 IsUnclosed approved = ⊥
 IsUnclosed (rejected n) = ⊥
-
-abbrev IsCloses : {S R : Type 0} → Outcome S R → Type 0
-IsCloses (still c s) = ⊥
-IsCloses (filed v) = ⊥
-IsCloses joins = ⊥
-IsCloses (closes v own) = Unit {0}
 
 abbrev pub reasonFrom : {A R : Type 0} → Reply A R → ℕ
 reasonFrom (accepted r) = 0
@@ -97,7 +96,7 @@ opens-group (closes v (itself c s₁)) s g r a t = absurd t
 opens-group (closes v last) s g r a t = absurd t
 opens-group (closes v fresh) s g r a t = refl
 
-opens-mark : {S A R : Type 0} (o : Outcome S R) (s : S) (g : List A) (r : R) (f : Fate) → OpensBy o g → mark (standing s g r) o f ≡ firstMark f
+pub opens-mark : {S A R : Type 0} (o : Outcome S R) (s : S) (g : List A) (r : R) (f : Fate) → OpensBy o g → mark (standing s g r) o f ≡ firstMark f
 unfolding mark groupMark
 opens-mark (still c s₁) s g r f t = absurd t
 opens-mark (filed v) s g r f t = absurd t
@@ -140,7 +139,7 @@ module _ {S A R : Type 0} (𝓡 : Reader S A R) where
   fate-append h φ [] ms st = refl
   fate-append h φ (l ∷ ls) ms st = ap (fateAt (step 𝓡 h st l)) (fate-append h φ ls ms (next st l (step 𝓡 h st l)))
 
-  marks-at : (h : Bool) (φ : Fate) (pre : List A) (l : A) (post : List A) (st : Standing S A R) (d : Mark)
+  pub marks-at : (h : Bool) (φ : Fate) (pre : List A) (l : A) (post : List A) (st : Standing S A R) (d : Mark)
       → getD (marks 𝓡 h φ st (pre ++ l ∷ post)) (length pre) d
       ≡ (let st₁ : Standing S A R = after 𝓡 h st pre in
       mark st₁ (step 𝓡 h st₁ l) (fate 𝓡 h φ (next st₁ l (step 𝓡 h st₁ l)) post))
@@ -253,7 +252,7 @@ module _ {S A R : Type 0} (𝓡 : Reader S A R) where
   stays-at (closes (bad n) own) F e = absurd (subst IsUnclosed (sym e) tt)
 
   -- lines that do not close the group leave its fate to the lines after them
-  stays : (h : Bool) (φ : Fate) (ls : List A) (st : Standing S A R) → fate 𝓡 h unclosed st ls ≡ unclosed → fate 𝓡 h φ st ls ≡ φ
+  pub stays : (h : Bool) (φ : Fate) (ls : List A) (st : Standing S A R) → fate 𝓡 h unclosed st ls ≡ unclosed → fate 𝓡 h φ st ls ≡ φ
   unfolding fate
   stays h φ [] st e = refl
   stays h φ (l ∷ ls) st e =
@@ -309,14 +308,14 @@ module _ {S A R : Type 0} (𝓡 : Reader S A R) where
   to-end h s r ls =
       ap (strict 𝓡 h (standing s [] r)) (sym (append-nil (strike 𝓡 h unclosed (standing s [] r) ls))) ∙ to-here (ending 𝓡 h) h s r ls []
 
-  to-line : (h : Bool) (s : S) (r : R) (pre : List A) (c : A)
+  pub to-line : (h : Bool) (s : S) (r : R) (pre : List A) (c : A)
       → strictTo 𝓡 h (standing s [] r) (strike 𝓡 h unclosed (standing s [] r) pre ++ (c ∷ []))
       ≡ (let st₁ : Standing S A R = after 𝓡 h (standing s [] r) pre in
       let o : Outcome S R = step 𝓡 h st₁ c in stopAt st₁ c o (accepted ((next st₁ c o) .recs)))
   unfolding strictTo read
   to-line h s r pre c = to-here (λ x. accepted (x .recs)) h s r pre (c ∷ [])
 
-  stop-there : (st : Standing S A R) (c : A) (o : Outcome S R) (own : Own S) (n : ℕ) (g : List A)
+  pub stop-there : (st : Standing S A R) (c : A) (o : Outcome S R) (own : Own S) (n : ℕ) (g : List A)
       → o ≡ closes (bad n) own → st .group ≡ g → stopAt st c o (accepted ((next st c o) .recs)) ≡ stopped n (aGroup g) (st .recs)
   unfolding stopAt unless
   stop-there st c o own n g q p =
@@ -405,7 +404,7 @@ module _ {S A R : Type 0} (𝓡 : Reader S A R) where
   -- ---- every stop is one of these
 
   -- the group that is open after some lines: none, the one that was open before them, or one that a line of them opened
-  data Trace (h : Bool) (st : Standing S A R) (ls : List A) : Type 0 where
+  pub data Trace (h : Bool) (st : Standing S A R) (ls : List A) : Type 0 where
     none : (after 𝓡 h st ls) .group ≡ [] → Trace h st ls
     kept : (y : A) (g g₁ : List A) → st .group ≡ y ∷ g → (after 𝓡 h st ls) .group ≡ y ∷ g₁ → fate 𝓡 h unclosed st ls ≡ unclosed → Trace h st ls
     opened : (pre : List A) (a : A) (mid g : List A) → ls ≡ pre ++ a ∷ mid → Opens 𝓡 h (after 𝓡 h st pre) a
@@ -437,16 +436,16 @@ module _ {S A R : Type 0} (𝓡 : Reader S A R) where
   trace-nil h s [] r = none refl
   trace-nil h s (x ∷ g) r = kept x g g refl refl refl
 
-  trace : (h : Bool) (ls : List A) (st : Standing S A R) → Trace h st ls
+  pub trace : (h : Bool) (ls : List A) (st : Standing S A R) → Trace h st ls
   trace h [] st = trace-nil h (st .sec) (st .group) (st .recs)
   trace h (l ∷ ls) st = trace-on h st l ls (trace h ls (next st l (step 𝓡 h st l)))
 
-  stored-never : (s : S) (w : Stored R) → IsCloses (ofStored s w) → ⊥
+  stored-never : (s : S) (w : Stored R) → ClosesBy (ofStored s w) → ⊥
   unfolding ofStored
   stored-never s over t = t
   stored-never s (judged v) t = t
 
-  none-closes : (h : Bool) (k : Sort S) (b : Bool) (s : S) (r : R) (l : A) → IsCloses (act 𝓡 h k b (standing s [] r) l) → ⊥
+  pub none-closes : (h : Bool) (k : Sort S) (b : Bool) (s : S) (r : R) (l : A) → ClosesBy (act 𝓡 h k b (standing s [] r) l) → ⊥
   unfolding act ifOpen ofStored
   none-closes h empty b s r l t = t
   none-closes true (heading s₁) b s r l t = t
@@ -462,9 +461,9 @@ module _ {S A R : Type 0} (𝓡 : Reader S A R) where
   unfolding step
   stop-group h s r pre c n own eo (none e) =
       let st₁ : Standing S A R = after 𝓡 h (standing s [] r) pre in
-      let z : IsCloses (step 𝓡 h (standing (st₁ .sec) (st₁ .group) (st₁ .recs)) c) = subst IsCloses (sym eo) tt in
+      let z : ClosesBy (step 𝓡 h (standing (st₁ .sec) (st₁ .group) (st₁ .recs)) c) = subst ClosesBy (sym eo) tt in
       absurd (none-closes h (𝓡 .sort c) (𝓡 .rules (st₁ .sec)) (st₁ .sec) (st₁ .recs) c
-      (subst (λ g. IsCloses (step 𝓡 h (standing (st₁ .sec) g (st₁ .recs)) c)) e z))
+      (subst (λ g. ClosesBy (step 𝓡 h (standing (st₁ .sec) g (st₁ .recs)) c)) e z))
   stop-group h s r pre c n own eo (kept y g g₁ e k d) = absurd (nil≢cons e)
   stop-group h s r pre c n own eo (opened pre₁ a mid g e t d k) =
       let st : Standing S A R = standing s [] r in

@@ -6,12 +6,17 @@ use mathlib.Core.Logic.{_↔_, _⊎_, inl, inr}
 use Prim.Native.Nat.{ℕ, _+_}
 use lib.Dec.{eqb}
 use borrow.Author.Tests.{eq-eqb}
-use Rattle.scope_lines.specs.Reader.{verdict, Sort, empty, heading, start, other, Verdict, good, bad, Stored, over, judged, Reader, Standing, standing, Class, refused, ruleRefused, Mark, marked, Piece, aGroup, Reply, accepted, stopped, Fate, unclosed, approved, rejected, Own, itself, last, fresh, Outcome, still, filed, joins, closes, settle, fateOf, groupClass, reasonOf, ifOpen, ofStored, next, unless, stopAt, fateAt, firstMark, groupMark, lineMark, mark, struck, strikeBy, shut, act, step, endVerdict, endFate, read, ending, strict, strictTo, after, fate, marks, surveyMarks, surveyRecs}
+use Rattle.scope_lines.specs.Reader.{verdict, Sort, empty, heading, start, other, Verdict, good, bad, Stored, over, judged, Reader, Standing, standing}
+use Rattle.scope_lines.specs.Reader.{Class, refused, ruleRefused, Mark, marked, Piece, aGroup, Reply, accepted, stopped, Fate, unclosed, approved}
+use Rattle.scope_lines.specs.Reader.{rejected, Own, itself, last, fresh, Outcome, still, filed, joins, closes, settle, fateOf, groupClass, reasonOf}
+use Rattle.scope_lines.specs.Reader.{ifOpen, ofStored, next, unless, stopAt, fateAt, firstMark, groupMark, lineMark, mark, struck, strikeBy, shut, act}
+use Rattle.scope_lines.specs.Reader.{step, endVerdict, endFate, read, ending, strict, strictTo, after, fate, marks, surveyMarks, surveyRecs}
 use Rattle.scope_lines.specs.Text.{nothing, each}
 use Rattle.scope_lines.specs.Demand3.{OpensBy, markOf, Opens}
 use Rattle.scope_lines.specs.Readings.{NoneStruck, Fair, RefusedFrom, whereClosed, whereEnded, ReasonStands, StoppedAt, stopLine, stopGroup, stopEnd}
 use Rattle.scope_lines.proofs.Strike.{strike-accepts, struck-still, Gone}
-use Rattle.scope_lines.proofs.Pieces.{IsStop, reasonFrom, pieceFrom, markOf-is, refused-only, markOf-first, first-rejected, Closed, byLine, byEnd, closing, opens-group, after-open, rejected-inj, end-stops, end-rejected}
+use Rattle.scope_lines.proofs.Pieces.{IsStop, reasonFrom, pieceFrom, markOf-is, refused-only, markOf-first, first-rejected, Closed, byLine, byEnd}
+use Rattle.scope_lines.proofs.Pieces.{closing, opens-group, after-open, rejected-inj, end-stops, end-rejected}
 
 -- ---- what a line that is judged, or that closes a group, was judged by
 

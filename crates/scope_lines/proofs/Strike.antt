@@ -3,7 +3,11 @@ use mathlib.Core.Path.{_≡_, refl, ap, sym, _∙_, subst}
 use mathlib.Core.Bool.{Bool, true, false, cond, false≢true}
 use mathlib.Core.List.{List, [], _∷_, _++_, append-nil}
 use Prim.Native.Nat.{_+_}
-use Rattle.scope_lines.specs.Reader.{Sort, empty, heading, start, other, Verdict, good, bad, Stored, over, judged, Reader, Standing, standing, Still, isBlank, isHeader, isPassed, stillClass, Reply, accepted, Fate, unclosed, approved, rejected, itself, last, fresh, Outcome, still, filed, joins, closes, settle, fateOf, groupClass, ifOpen, ofStored, next, unless, stopAt, fateAt, firstMark, groupMark, lineMark, mark, struck, strikeBy, shut, act, step, endVerdict, endFate, read, ending, strict, after, fate, marks, surveyMarks, surveyRecs, strike}
+use Rattle.scope_lines.specs.Reader.{Sort, empty, heading, start, other, Verdict, good, bad, Stored, over, judged, Reader, Standing, standing, Still}
+use Rattle.scope_lines.specs.Reader.{isBlank, isHeader, isPassed, stillClass, Reply, accepted, Fate, unclosed, approved, rejected, itself, last, fresh}
+use Rattle.scope_lines.specs.Reader.{Outcome, still, filed, joins, closes, settle, fateOf, groupClass, ifOpen, ofStored, next, unless, stopAt, fateAt}
+use Rattle.scope_lines.specs.Reader.{firstMark, groupMark, lineMark, mark, struck, strikeBy, shut, act, step, endVerdict, endFate, read, ending, strict}
+use Rattle.scope_lines.specs.Reader.{after, fate, marks, surveyMarks, surveyRecs, strike}
 
 pub struck-still : (c : Still) → struck (stillClass c) ≡ false
 unfolding struck stillClass

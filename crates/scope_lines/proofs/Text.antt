@@ -10,7 +10,8 @@ use lib.Seq.{take-at, drop-at}
 use mathlib.Core.Logic.{_↔_}
 use Rattle.leaf_scans.specs.Lines.{chunks, joined}
 use Rattle.leaf_scans.proofs.LineLaws.{joined-chunks}
-use Rattle.scope_lines.specs.Reader.{Reader, standing, Mark, marked, unclosed, Reply, accepted, stopped, refused, struck, strikeBy, strict, strictTo, after, ruleRefused, surveyMarks, surveyRecs, marks, strike, Piece, aLine, aGroup}
+use Rattle.scope_lines.specs.Reader.{Reader, standing, Mark, marked, unclosed, Reply, accepted, stopped, refused, struck, strikeBy, strict, strictTo}
+use Rattle.scope_lines.specs.Reader.{after, ruleRefused, surveyMarks, surveyRecs, marks, strike, Piece, aLine, aGroup}
 use Rattle.scope_lines.specs.Text.{Line, number, linesOf, strikeText, renumber, SameBody, Moved, pieceNo, upTo, Each, nothing, each}
 use Rattle.scope_lines.specs.Demand3.{markOf, Opens, upToStruck, TextGroupStop, textLine, textEnd}
 use Rattle.scope_lines.proofs.Stops.{GroupStop, atLine, atEnd, Stop, isLine}
@@ -50,7 +51,7 @@ chunks-strike ms t = chunks-joined (lines-strike ms (lines-chunks t))
 pub moved-same : (ρ : ℕ → ℕ) (l k : Line) → Moved ρ l k → SameBody l k
 moved-same ρ l k p = p .0
 
-renumber-nil : (j : ℕ) → renumber [] j ≡ j
+pub renumber-nil : (j : ℕ) → renumber [] j ≡ j
 unfolding renumber
 renumber-nil zero = refl
 renumber-nil (suc j) = refl

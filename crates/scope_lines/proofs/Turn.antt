@@ -2,7 +2,8 @@
 use mathlib.Core.Path.{_≡_, refl, sym}
 use mathlib.Core.List.{List, [], _∷_}
 use Prim.Native.Nat.{ℕ}
-use Rattle.scope_lines.specs.Reader.{Verdict, good, bad, Standing, Still, stillClass, still, filed, joins, closes, Own, itself, last, fresh, unclosed, code, groupClass, fateOf, firstMark, groupMark, lineMark, mark, aGroup}
+use Rattle.scope_lines.specs.Reader.{Verdict, good, bad, Standing, Still, stillClass, still, filed, joins, closes, Own, itself, last, fresh, unclosed}
+use Rattle.scope_lines.specs.Reader.{code, groupClass, fateOf, firstMark, groupMark, lineMark, mark, aGroup}
 use Rattle.scope_lines.specs.Text.{Line, pieceNo}
 use Rattle.scope_lines.specs.Turn.{refusalIn, fineIn, refusal, fine, closedBy, pieceBy, ownClass, Tells}
 

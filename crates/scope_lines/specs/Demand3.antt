@@ -5,7 +5,8 @@ use mathlib.Core.Bool.{Bool, false}
 use mathlib.Core.List.{List, [], _∷_, _++_}
 use Prim.Native.Nat.{ℕ, suc}
 use lib.ListN.{length, getD}
-use Rattle.scope_lines.specs.Reader.{Reader, Standing, standing, Mark, marked, blank, aGroup, stopped, unclosed, itself, last, fresh, Outcome, still, filed, joins, closes, step, strict, strictTo, after, fate, marks, surveyMarks}
+use Rattle.scope_lines.specs.Reader.{Reader, Standing, standing, Mark, marked, blank, aGroup, stopped, unclosed, itself, last, fresh, Outcome, still}
+use Rattle.scope_lines.specs.Reader.{filed, joins, closes, step, strict, strictTo, after, fate, marks, surveyMarks}
 use Rattle.scope_lines.specs.Text.{Line, linesOf, strikeText, renumber, upTo, Moved}
 
 -- is the line the first of a group?
@@ -18,6 +19,13 @@ OpensBy (closes v (itself c s)) g = ⊥
 OpensBy (closes v last) g = ⊥
 OpensBy (closes v fresh) g = Unit {0}
 
+-- does the line close a group?
+abbrev pub ClosesBy : {S R : Type 0} → Outcome S R → Type 0
+ClosesBy (still c s) = ⊥
+ClosesBy (filed v) = ⊥
+ClosesBy joins = ⊥
+ClosesBy (closes v own) = Unit {0}
+
 module _ {S A R : Type 0} (𝓡 : Reader S A R) where
   -- the mark of `l` in the survey of pre ++ l ∷ post
   unfoldable pub markOf : Bool → Standing S A R → List A → A → List A → Mark
@@ -25,6 +33,13 @@ module _ {S A R : Type 0} (𝓡 : Reader S A R) where
 
   abbrev pub Opens : Bool → Standing S A R → A → Type 0
   Opens h st a = OpensBy (step 𝓡 h st a) (st .group)
+
+  -- "A group ends at the line that closes it; lines of other sections may stand between": after the lines pre, a opens a group; none
+  -- of the lines mid closes it; c does
+  pub record EndsAt (h : Bool) (st : Standing S A R) (pre : List A) (a : A) (mid : List A) (c : A) : Type 0 where
+    pub opens : Opens h (after 𝓡 h st pre) a
+    pub waits : fate 𝓡 h unclosed (after 𝓡 h (after 𝓡 h st pre) (a ∷ [])) mid ≡ unclosed
+    pub ends : ClosesBy (step 𝓡 h (after 𝓡 h st (pre ++ a ∷ mid)) c)
 
 module _ {S R : Type 0} (𝓡 : Reader S Line R) where
   -- the text up to line l, earlier refusals struck
