@@ -1,2 +1,3 @@
--- What the proof of the one function uses.
+-- What the proofs of several functions use, here and where a record is read back.
 mod CountsLaws
+pub mod RoomLaws

@@ -1,9 +1,9 @@
 -- A loop's count is the definition's. Assumes nothing.
-use Prim.Native.Nat.{ℕ, suc, _+_, _-_, _≤_, _<_}
+use Prim.Native.Nat.{ℕ, zero, suc, _+_, _-_, _≤_, _<_}
 use native.Mathlib.Omega.{arith}
 use mathlib.Core.Path.{_≡_, refl, sym, ap, _∙_}
 use mathlib.Core.Bool.{Bool}
-use mathlib.Core.List.{List, [], _∷_, _++_}
+use mathlib.Core.List.{List, [], _∷_, _++_, map}
 use lib.ListN.{length, getD, take, drop, length-drop}
 use lib.Seq.{take-suc, take-all, getD-drop, length-take-le}
 use Rattle.scope.specs.Records.{Clause, condition, action}
@@ -21,7 +21,8 @@ module _ {A : Type 0} (asked : A → Bool) where
   unfolding howMany
   none-yet first xs = let z : first - first ≡ 0 = omega arith in rw z
 
-  pub one-more : (first k : ℕ) (xs : List A) (d : A) (n : ℕ) → first ≤ k → k < length xs → n ≡ howMany asked (between first k xs) → n + oneIf (asked (getD xs k d)) ≡ howMany asked (between first (k + 1) xs)
+  pub one-more : (first k : ℕ) (xs : List A) (d : A) (n : ℕ) → first ≤ k → k < length xs → n ≡ howMany asked (between first k xs)
+      → n + oneIf (asked (getD xs k d)) ≡ howMany asked (between first (k + 1) xs)
   one-more first k xs d n low high e =
       let next : (k + 1) - first ≡ suc (k - first) = omega arith in
       let here : first + (k - first) ≡ k = omega arith in
@@ -33,6 +34,12 @@ module _ {A : Type 0} (asked : A → Bool) where
 
   pub all-of-them : (k : ℕ) (xs : List A) (n : ℕ) → k ≡ length xs → n ≡ howMany asked (between 0 k xs) → n ≡ howMany asked xs
   all-of-them k xs n same e = e ∙ ap (howMany asked) (take-all (k - 0) xs (omega (arith, same)))
+
+-- ---- the place that a record names
+pub named-at : {A : Type 0} (f : A → ℕ) (xs : List A) (d : A) (k : ℕ) → k < length (map f xs) → f (getD xs k d) ≡ getD (map f xs) k 0
+named-at f [] d k h = absurd (omega arith)
+named-at f (x ∷ xs) d zero h = refl
+named-at f (x ∷ xs) d (suc k) h = named-at f xs d k (omega arith)
 
 -- ---- a clause is a condition or an action
 pub condition-back : (c : Clause) → isConditionOut (clauseBack c) ≡ isCondition c

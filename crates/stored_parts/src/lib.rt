@@ -1,14 +1,14 @@
 // How many of the stored records belong to another: a junction's demands, a curve's points, a pattern's multipliers, a rule's conditions and actions.
 ghost use mathlib.Core.Path.{_≡_};
 ghost use mathlib.Core.List.{List, _++_};
-ghost use Prim.Native.Nat.{ℕ, _-_, _≤_};
-ghost use lib.ListN.{length, drop};
+ghost use Prim.Native.Nat.{ℕ, _-_, _≤_, _<_};
+ghost use lib.ListN.{length, getD, drop};
 ghost use Rattle.scope.specs.Layout.{recordWords};
 ghost use Rattle.scope.specs.Records.{Network, countsOf};
 ghost use Rattle.scope.specs.Rules.{isCondition, isAction};
 ghost use Rattle.scope.specs.Tables.{tallyWords};
 ghost use Rattle.stored_records.specs.Back.{Stands};
-ghost use Rattle.stored_parts.specs.Parts.{oneIf, howMany, ofNode, ofCurve, ofPattern, between, isConditionOut};
+ghost use Rattle.stored_parts.specs.Parts.{oneIf, howMany, owners, isPlace, between, isConditionOut};
 use stored_records::Clause;
 
 // What a record adds to the count of those for which something holds.
@@ -21,49 +21,56 @@ pub fn one_if(holds: bool) -> usize
 
 // ---- the records that name the place of another
 
-// The demands of node number `node`.
-pub fn demands_of(words: &[u64], numbers: &[f64], node: usize) -> usize
-    ensures { λ r. ⌜ ((m : Network) (rest : List ℕ) → Stands m (now (words .entry)) (now (numbers .entry)) → drop recordWords (now (words .entry)) ≡ tallyWords (countsOf m) ++ rest → r ≡ howMany (ofNode node) (m .demands)) ⌝ }
-{
-    let counts = stored_counts::counts_at(words);
-    let all = counts.demands;
-    let mut n = 0;
-    let mut k = 0;
-    while k < all {
-        let d = stored_series::demand_at(words, numbers, k);
-        n += one_if(d.node == node);
-        k += 1;
-    }
-    n
+// A demand names its node, a point its curve, a multiplier its pattern.
+pub enum Part {
+    Demand,
+    Point,
+    Multiplier,
 }
 
-// The points of curve number `curve`.
-pub fn points_of(words: &[u64], numbers: &[f64], curve: usize) -> usize
-    ensures { λ r. ⌜ ((m : Network) (rest : List ℕ) → Stands m (now (words .entry)) (now (numbers .entry)) → drop recordWords (now (words .entry)) ≡ tallyWords (countsOf m) ++ rest → r ≡ howMany (ofCurve curve) (m .points)) ⌝ }
+// How many records of the kind there are.
+fn how_many(words: &[u64], part: Part) -> usize
+    ensures { λ r. ⌜ ((m : Network) (rest : List ℕ) → drop recordWords (now (words .entry)) ≡ tallyWords (countsOf m) ++ rest → r ≡ length (owners part m)) ⌝ }
 {
     let counts = stored_counts::counts_at(words);
-    let all = counts.points;
-    let mut n = 0;
-    let mut k = 0;
-    while k < all {
-        let p = stored_series::point_at(words, numbers, k);
-        n += one_if(p.curve == curve);
-        k += 1;
+    match part {
+        Part::Demand => counts.demands,
+        Part::Point => counts.points,
+        Part::Multiplier => counts.multipliers,
     }
-    n
 }
 
-// The multipliers of pattern number `pattern`.
-pub fn multipliers_of(words: &[u64], numbers: &[f64], pattern: usize) -> usize
-    ensures { λ r. ⌜ ((m : Network) (rest : List ℕ) → Stands m (now (words .entry)) (now (numbers .entry)) → drop recordWords (now (words .entry)) ≡ tallyWords (countsOf m) ++ rest → r ≡ howMany (ofPattern pattern) (m .multipliers)) ⌝ }
+// The place that record k of the kind names.
+fn owner_at(words: &[u64], numbers: &[f64], part: Part, k: usize) -> usize
+    ensures { λ r. ⌜ ((m : Network) → Stands m (now (words .entry)) (now (numbers .entry)) → k < length (owners part m) → r ≡ getD (owners part m) k 0) ⌝ }
 {
-    let counts = stored_counts::counts_at(words);
-    let all = counts.multipliers;
+    match part {
+        Part::Demand => {
+            let d = stored_series::demand_at(words, numbers, k);
+            d.node
+        }
+        Part::Point => {
+            let p = stored_series::point_at(words, numbers, k);
+            p.curve
+        }
+        Part::Multiplier => {
+            let x = stored_series::multiplier_at(words, numbers, k);
+            x.pattern
+        }
+    }
+}
+
+// The records of the kind that name place `owner`: a junction's demands, a curve's points, a pattern's multipliers.
+pub fn parts_of(words: &[u64], numbers: &[f64], part: Part, owner: usize) -> usize
+    ensures { λ r. ⌜ ((m : Network) (rest : List ℕ) → Stands m (now (words .entry)) (now (numbers .entry))
+        → drop recordWords (now (words .entry)) ≡ tallyWords (countsOf m) ++ rest → r ≡ howMany (isPlace owner) (owners part m)) ⌝ }
+{
+    let all = how_many(words, part);
     let mut n = 0;
     let mut k = 0;
     while k < all {
-        let m = stored_series::multiplier_at(words, numbers, k);
-        n += one_if(m.pattern == pattern);
+        let o = owner_at(words, numbers, part, k);
+        n += one_if(o == owner);
         k += 1;
     }
     n

@@ -10,16 +10,20 @@ use lib.ListN.{length, getD, take, replicate, List·getD-eq-default}
 use lib.Seq.{getD-take}
 use lib.Ieee.{Float, nan}
 use Rattle.leaf_fields.specs.Fields.{Name}
-use Rattle.scope.specs.Records.{Network, Node, NodeKind, junction, reservoir, tank, Reservoir, Tank, Place, Link, LinkKind, pipe, pump, valve, Pump, Valve, Rule, Clause, condition, action, Condition, noNode, zeroF, noLink, noRule, noClause}
+use Rattle.scope.specs.Records.{Network, Node, NodeKind, junction, reservoir, tank, Reservoir, Tank, Place, Link, LinkKind, pipe, pump, valve, Pump, Valve, Rule}
+use Rattle.scope.specs.Records.{Clause, condition, action, Condition, noNode, zeroF, noLink, noRule, noClause}
 use Rattle.scope.specs.Links.{newLink}
 use Rattle.scope.specs.Tables.{packed, nodeWords, nodeNumbers, linkWords, linkNumbers, ruleWords, clauseWords, clauseNumbers}
 use Rattle.scope.specs.Sections.{roomNodes, roomLinks, roomRules, roomClauses}
-use Rattle.scope.specs.Layout.{idPlace, idLength, nameLength, nodeKind, nodeName, nodeDetail, nodePlaced, linkStart, linkEnd, linkKind, linkDetail, linkName, ruleFirst, ruleCount, rulePrioritySet, rulePriority}
+use Rattle.scope.specs.Layout.{idPlace, idLength, nameLength, nodeKind, nodeName, nodeDetail, nodePlaced, linkStart, linkEnd, linkKind, linkDetail, linkName}
+use Rattle.scope.specs.Layout.{ruleFirst, ruleCount, rulePrioritySet, rulePriority}
 use Rattle.scope.specs.Layout.{clauseKind, conditionOperator, conditionTarget, conditionComparison, actionElse, actionLink, clauseStatus, clauseName}
 use Rattle.scope.specs.Layout.{nodeElevation, junctionEmitter, tankInitial, tankMinimum, tankMaximum, tankDiameter, tankVolume, nodeX, nodeY, pipeLength, pipeDiameter, pipeRoughness, pipeMinor}
-use Rattle.scope.specs.Layout.{nodesAt, linksAt, rulesAt, clausesAt, nodesWidth, linksWidth, rulesWidth, clausesWidth, nodeNumbersAt, linkNumbersAt, clauseNumbersAt, nodeNumbersWidth, linkNumbersWidth, recordWords, roomNumbers}
-use Rattle.table_codes.proofs.CodeLaws.{flag-back, found-back, pipe-status-back, type-back, target-back, comparison-back, operator-back, value-back}
-use Rattle.table_codes.specs.Codes.{spanFrom}
+use Rattle.scope.specs.Layout.{nodesAt, linksAt, rulesAt, clausesAt, nodesWidth, linksWidth, rulesWidth, clausesWidth, nodeNumbersAt, linkNumbersAt}
+use Rattle.scope.specs.Layout.{clauseNumbersAt, nodeNumbersWidth, linkNumbersWidth, recordWords, roomNumbers}
+use Rattle.table_codes.proofs.CodeLaws.{flag-back, pipe-status-back, type-back, target-back, comparison-back, operator-back, value-back}
+use Rattle.stored_words.proofs.WordLaws.{found-back}
+use Rattle.stored_words.specs.Words.{spanFrom}
 use Rattle.stored_records.specs.Back.{Stands, clauseBy, nodeBack, linkBack, ruleBack, clauseBack}
 use Rattle.stored_records.proofs.Whole.{nodeBy, linkBy, ruleBy}
 use Rattle.leaf_decimals.proofs.Whole.{le-or-lt}
@@ -94,7 +98,8 @@ module _ (l : Link) where
   link-back (valve v) = valve-back v (v .curve)
 
 -- ---- rules and clauses
-rule-back : (r : Rule) (o : Option ℕ) → ruleBy (wordsIn (ruleWords (record { id = r .id; priority = o; first = r .first; count = r .count }))) ≡ ruleBack (record { id = r .id; priority = o; first = r .first; count = r .count })
+rule-back : (r : Rule) (o : Option ℕ) → ruleBy (wordsIn (ruleWords (record { id = r .id; priority = o; first = r .first; count = r .count })))
+    ≡ ruleBack (record { id = r .id; priority = o; first = r .first; count = r .count })
 rule-back r none = refl
 rule-back r (some n) = refl
 
@@ -130,16 +135,47 @@ module _ {m : Network} {w : List ℕ} {f : List Float} (g : Stands m w f) (i : �
 
   node-here : i < roomNodes → i < length (m .nodes) → NodeIs
   node-here h hi =
-      let a : (j : ℕ) → j < nodesWidth → getD w (nodesAt + i * nodesWidth + j) 0 ≡ wordsIn (nodeWords (getD (m .nodes) i noNode)) j = λ j hj. word w (nodesAt + i * nodesWidth + j) (omega arith) ∙ node-word (g .words) i j noNode hi hj in
-      let b : (j : ℕ) → j < nodeNumbersWidth → getD f (nodeNumbersAt + i * nodeNumbersWidth + j) nan ≡ numbersIn (nodeNumbers (getD (m .nodes) i noNode)) j = λ j hj. number f (nodeNumbersAt + i * nodeNumbersWidth + j) (omega arith) ∙ node-number (g .words .known) (g .numbers) i j nan noNode hi hj in
-      rw (a idPlace (omega arith), a idLength (omega arith), a nodeKind (omega arith), a nodeName (omega arith), a (nodeName + nameLength) (omega arith), a nodeDetail (omega arith), a nodePlaced (omega arith), b nodeElevation (omega arith), b tankInitial (omega arith), b tankMinimum (omega arith), b tankMaximum (omega arith), b tankDiameter (omega arith), b tankVolume (omega arith), b nodeX (omega arith), b nodeY (omega arith))
+      let a : (j : ℕ) → j < nodesWidth → getD w (nodesAt + i * nodesWidth + j) 0 ≡ wordsIn (nodeWords (getD (m .nodes) i noNode)) j =
+      λ j hj. word w (nodesAt + i * nodesWidth + j) (omega arith) ∙ node-word (g .words) i j noNode hi hj in
+      let b : (j : ℕ) → j < nodeNumbersWidth → getD f (nodeNumbersAt + i * nodeNumbersWidth + j) nan ≡ numbersIn (nodeNumbers (getD (m .nodes) i noNode)) j =
+      λ j hj. number f (nodeNumbersAt + i * nodeNumbersWidth + j) (omega arith) ∙ node-number (g .words .known) (g .numbers) i j nan noNode hi hj in
+      rw (
+        a idPlace (omega arith),
+        a idLength (omega arith),
+        a nodeKind (omega arith),
+        a nodeName (omega arith),
+        a (nodeName + nameLength) (omega arith),
+        a nodeDetail (omega arith),
+        a nodePlaced (omega arith),
+        b nodeElevation (omega arith),
+        b tankInitial (omega arith),
+        b tankMinimum (omega arith),
+        b tankMaximum (omega arith),
+        b tankDiameter (omega arith),
+        b tankVolume (omega arith),
+        b nodeX (omega arith),
+        b nodeY (omega arith),
+      )
       (kind-back (getD (m .nodes) i noNode .id) (getD (m .nodes) i noNode .kind) (getD (m .nodes) i noNode .place))
 
   node-past : i < roomNodes → length (m .nodes) ≤ i → NodeIs
   node-past h past =
-      let a : (j : ℕ) → j < nodesWidth → getD w (nodesAt + i * nodesWidth + j) 0 ≡ 0 = λ j hj. word w (nodesAt + i * nodesWidth + j) (omega arith) ∙ past-word (node-words-lie (g .words .known)) (g .words .exact) i j 0 past (omega arith) in
-      let b : (j : ℕ) → j < nodeNumbersWidth → getD f (nodeNumbersAt + i * nodeNumbersWidth + j) nan ≡ zeroF = λ j hj. number f (nodeNumbersAt + i * nodeNumbersWidth + j) (omega arith) ∙ past-word (node-numbers-lie (g .words .known)) (g .numbers .exact) i j nan past (omega arith) in
-      rw (a idPlace (omega arith), a idLength (omega arith), a nodeKind (omega arith), a nodeDetail (omega arith), a nodePlaced (omega arith), b nodeElevation (omega arith), b junctionEmitter (omega arith), b nodeX (omega arith), b nodeY (omega arith), List·getD-eq-default (m .nodes) noNode past)
+      let a : (j : ℕ) → j < nodesWidth → getD w (nodesAt + i * nodesWidth + j) 0 ≡ 0 =
+      λ j hj. word w (nodesAt + i * nodesWidth + j) (omega arith) ∙ past-word (node-words-lie (g .words .known)) (g .words .exact) i j 0 past (omega arith) in
+      let b : (j : ℕ) → j < nodeNumbersWidth → getD f (nodeNumbersAt + i * nodeNumbersWidth + j) nan ≡ zeroF =
+      λ j hj. number f (nodeNumbersAt + i * nodeNumbersWidth + j) (omega arith) ∙ past-word (node-numbers-lie (g .words .known)) (g .numbers .exact) i j nan past (omega arith) in
+      rw (
+        a idPlace (omega arith),
+        a idLength (omega arith),
+        a nodeKind (omega arith),
+        a nodeDetail (omega arith),
+        a nodePlaced (omega arith),
+        b nodeElevation (omega arith),
+        b junctionEmitter (omega arith),
+        b nodeX (omega arith),
+        b nodeY (omega arith),
+        List·getD-eq-default (m .nodes) noNode past,
+      )
 
   pub node-is : i < roomNodes → NodeIs
   node-is h = elim (le-or-lt (length (m .nodes)) i) [ inl past ↦ node-past h past | inr hi ↦ node-here h hi ]
@@ -149,23 +185,53 @@ module _ {m : Network} {w : List ℕ} {f : List Float} (g : Stands m w f) (i : �
 
   link-here : i < roomLinks → i < length (m .links) → LinkIs
   link-here h hi =
-      let a : (j : ℕ) → j < linksWidth → getD w (linksAt + i * linksWidth + j) 0 ≡ wordsIn (linkWords (getD (m .links) i noLink)) j = λ j hj. word w (linksAt + i * linksWidth + j) (omega arith) ∙ link-word (g .words) i j noLink hi hj in
-      let b : (j : ℕ) → j < linkNumbersWidth → getD f (linkNumbersAt + i * linkNumbersWidth + j) nan ≡ numbersIn (linkNumbers (getD (m .links) i noLink)) j = λ j hj. number f (linkNumbersAt + i * linkNumbersWidth + j) (omega arith) ∙ link-number (g .words .known) (g .numbers) i j nan noLink hi hj in
-      rw (a idPlace (omega arith), a idLength (omega arith), a linkStart (omega arith), a linkEnd (omega arith), a linkKind (omega arith), a linkDetail (omega arith), a linkName (omega arith), a (linkName + nameLength) (omega arith), b pipeLength (omega arith), b pipeDiameter (omega arith), b pipeRoughness (omega arith), b pipeMinor (omega arith))
+      let a : (j : ℕ) → j < linksWidth → getD w (linksAt + i * linksWidth + j) 0 ≡ wordsIn (linkWords (getD (m .links) i noLink)) j =
+      λ j hj. word w (linksAt + i * linksWidth + j) (omega arith) ∙ link-word (g .words) i j noLink hi hj in
+      let b : (j : ℕ) → j < linkNumbersWidth → getD f (linkNumbersAt + i * linkNumbersWidth + j) nan ≡ numbersIn (linkNumbers (getD (m .links) i noLink)) j =
+      λ j hj. number f (linkNumbersAt + i * linkNumbersWidth + j) (omega arith) ∙ link-number (g .words .known) (g .numbers) i j nan noLink hi hj in
+      rw (
+        a idPlace (omega arith),
+        a idLength (omega arith),
+        a linkStart (omega arith),
+        a linkEnd (omega arith),
+        a linkKind (omega arith),
+        a linkDetail (omega arith),
+        a linkName (omega arith),
+        a (linkName + nameLength) (omega arith),
+        b pipeLength (omega arith),
+        b pipeDiameter (omega arith),
+        b pipeRoughness (omega arith),
+        b pipeMinor (omega arith),
+      )
       (link-back (getD (m .links) i noLink) (getD (m .links) i noLink .kind))
 
   link-past : i < roomLinks → length (m .links) ≤ i → LinkIs
   link-past h past =
-      let a : (j : ℕ) → j < linksWidth → getD w (linksAt + i * linksWidth + j) 0 ≡ 0 = λ j hj. word w (linksAt + i * linksWidth + j) (omega arith) ∙ past-word (link-words-lie (g .words .known)) (g .words .exact) i j 0 past (omega arith) in
-      let b : (j : ℕ) → j < linkNumbersWidth → getD f (linkNumbersAt + i * linkNumbersWidth + j) nan ≡ zeroF = λ j hj. number f (linkNumbersAt + i * linkNumbersWidth + j) (omega arith) ∙ past-word (link-numbers-lie (g .words .known)) (g .numbers .exact) i j nan past (omega arith) in
-      rw (a idPlace (omega arith), a idLength (omega arith), a linkStart (omega arith), a linkEnd (omega arith), a linkKind (omega arith), a linkDetail (omega arith), b pipeLength (omega arith), b pipeDiameter (omega arith), b pipeRoughness (omega arith), b pipeMinor (omega arith), List·getD-eq-default (m .links) noLink past)
+      let a : (j : ℕ) → j < linksWidth → getD w (linksAt + i * linksWidth + j) 0 ≡ 0 =
+      λ j hj. word w (linksAt + i * linksWidth + j) (omega arith) ∙ past-word (link-words-lie (g .words .known)) (g .words .exact) i j 0 past (omega arith) in
+      let b : (j : ℕ) → j < linkNumbersWidth → getD f (linkNumbersAt + i * linkNumbersWidth + j) nan ≡ zeroF =
+      λ j hj. number f (linkNumbersAt + i * linkNumbersWidth + j) (omega arith) ∙ past-word (link-numbers-lie (g .words .known)) (g .numbers .exact) i j nan past (omega arith) in
+      rw (
+        a idPlace (omega arith),
+        a idLength (omega arith),
+        a linkStart (omega arith),
+        a linkEnd (omega arith),
+        a linkKind (omega arith),
+        a linkDetail (omega arith),
+        b pipeLength (omega arith),
+        b pipeDiameter (omega arith),
+        b pipeRoughness (omega arith),
+        b pipeMinor (omega arith),
+        List·getD-eq-default (m .links) noLink past,
+      )
 
   pub link-is : i < roomLinks → LinkIs
   link-is h = elim (le-or-lt (length (m .links)) i) [ inl past ↦ link-past h past | inr hi ↦ link-here h hi ]
 
   pub rule-is : i < roomRules → ruleBy (λ j. getD w (rulesAt + i * rulesWidth + j) 0) ≡ ruleBack (getD (m .rules) i noRule)
   rule-is h =
-      let a : (j : ℕ) → j < rulesWidth → getD w (rulesAt + i * rulesWidth + j) 0 ≡ wordsIn (ruleWords (getD (m .rules) i noRule)) j = λ j hj. word w (rulesAt + i * rulesWidth + j) (omega arith) ∙ any-word (rule-words-lie (g .words .known)) (g .words .exact) i j 0 noRule no-rule (omega arith) hj in
+      let a : (j : ℕ) → j < rulesWidth → getD w (rulesAt + i * rulesWidth + j) 0 ≡ wordsIn (ruleWords (getD (m .rules) i noRule)) j =
+      λ j hj. word w (rulesAt + i * rulesWidth + j) (omega arith) ∙ any-word (rule-words-lie (g .words .known)) (g .words .exact) i j 0 noRule no-rule (omega arith) hj in
       rw (a idPlace (omega arith), a idLength (omega arith), a ruleFirst (omega arith), a ruleCount (omega arith), a rulePrioritySet (omega arith), a rulePriority (omega arith))
       (rule-back (getD (m .rules) i noRule) (getD (m .rules) i noRule .priority))
 
@@ -174,15 +240,20 @@ module _ {m : Network} {w : List ℕ} {f : List Float} (g : Stands m w f) (i : �
 
   clause-here : i < roomClauses → i < length (m .clauses) → ClauseIs
   clause-here h hi =
-      let a : (j : ℕ) → j < clausesWidth → getD w (clausesAt + i * clausesWidth + j) 0 ≡ wordsIn (clauseWords (getD (m .clauses) i noClause)) j = λ j hj. word w (clausesAt + i * clausesWidth + j) (omega arith) ∙ clause-word (g .words) i j noClause hi hj in
-      let b : getD f (clauseNumbersAt + i) nan ≡ numbersIn (clauseNumbers (getD (m .clauses) i noClause)) 0 = number f (clauseNumbersAt + i) (omega arith) ∙ clause-number (g .words .known) (g .numbers) i nan noClause hi in
+      let a : (j : ℕ) → j < clausesWidth → getD w (clausesAt + i * clausesWidth + j) 0 ≡ wordsIn (clauseWords (getD (m .clauses) i noClause)) j =
+      λ j hj. word w (clausesAt + i * clausesWidth + j) (omega arith) ∙ clause-word (g .words) i j noClause hi hj in
+      let b : getD f (clauseNumbersAt + i) nan ≡ numbersIn (clauseNumbers (getD (m .clauses) i noClause)) 0 =
+      number f (clauseNumbersAt + i) (omega arith) ∙ clause-number (g .words .known) (g .numbers) i nan noClause hi in
       rw (a clauseKind (omega arith), a conditionOperator (omega arith), a conditionTarget (omega arith), a conditionComparison (omega arith), a clauseStatus (omega arith), a clauseName (omega arith), a (clauseName + nameLength) (omega arith), b)
       (clause-back (getD (m .clauses) i noClause))
 
   clause-past : i < roomClauses → length (m .clauses) ≤ i → ClauseIs
   clause-past h past =
-      let a : (j : ℕ) → j < clausesWidth → getD w (clausesAt + i * clausesWidth + j) 0 ≡ 0 = λ j hj. word w (clausesAt + i * clausesWidth + j) (omega arith) ∙ past-word (clause-words-lie (g .words .known)) (g .words .exact) i j 0 past (omega arith) in
-      let b : getD f (clauseNumbersAt + i) nan ≡ zeroF = number f (clauseNumbersAt + i) (omega arith) ∙ one-place (take roomNumbers f) clauseNumbersAt i nan (past-word (clause-numbers-lie (g .words .known)) (g .numbers .exact) i 0 nan past (omega arith)) in
+      let a : (j : ℕ) → j < clausesWidth → getD w (clausesAt + i * clausesWidth + j) 0 ≡ 0 =
+      λ j hj. word w (clausesAt + i * clausesWidth + j) (omega arith) ∙ past-word (clause-words-lie (g .words .known)) (g .words .exact) i j 0 past (omega arith) in
+      let b : getD f (clauseNumbersAt + i) nan ≡ zeroF =
+      number f (clauseNumbersAt + i) (omega arith)
+      ∙ one-place (take roomNumbers f) clauseNumbersAt i nan (past-word (clause-numbers-lie (g .words .known)) (g .numbers .exact) i 0 nan past (omega arith)) in
       rw (a clauseKind (omega arith), a actionElse (omega arith), a actionLink (omega arith), a clauseStatus (omega arith), a clauseName (omega arith), a (clauseName + nameLength) (omega arith), b, List·getD-eq-default (m .clauses) noClause past)
 
   pub clause-is : i < roomClauses → ClauseIs

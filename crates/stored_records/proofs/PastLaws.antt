@@ -18,7 +18,7 @@ use Rattle.scope.specs.Layout.{recordWords, roomNumbers}
 use Rattle.table_rows.proofs.RegionLaws.{flat-length, region-length}
 use Rattle.table_rows.proofs.BlockLaws.{sum, get-in, Lies, get-word}
 use Rattle.table_rows.proofs.EmptyLaws.{words-long, numbers-long}
-use Rattle.table_rows.specs.Room.{hasRoom, haveRoom}
+use Rattle.stored_counts.specs.Room.{hasRoom, haveRoom}
 use Rattle.stored_records.specs.Back.{Stands}
 
 -- ---- past the last record

@@ -6,7 +6,7 @@ use Rattle.stored_records.specs.declared.Node as nodeOut
 use Rattle.stored_records.specs.declared.Link as linkOut
 use Rattle.stored_records.specs.declared.Rule as ruleOut
 use Rattle.scope.specs.Layout.{idPlace, idLength, nodePlaced, nodeX, nodeY, linkStart, linkEnd, ruleFirst, ruleCount, rulePrioritySet, rulePriority}
-use Rattle.table_codes.specs.Codes.{spanFrom, amountFrom}
+use Rattle.stored_words.specs.Words.{spanFrom, amountFrom}
 use Rattle.stored_records.specs.Back.{kindBy, linkKindBy}
 
 abbrev pub nodeBy : (ℕ → ℕ) → (ℕ → Float) → nodeOut.Node

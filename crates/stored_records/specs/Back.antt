@@ -9,8 +9,10 @@ use lib.Ieee.{Float, nan}
 use Rattle.leaf_fields.specs.Fields.{Name}
 use Rattle.scope.specs.Records as R
 use Rattle.scope.specs.Records.{Network, zeroF, junction, reservoir, tank, pipe, pump, valve, condition, action}
-use Rattle.scope.specs.Layout.{nameLength, nodeKind, nodeName, nodeDetail, linkKind, linkDetail, linkName, clauseKind, conditionOperator, conditionTarget, conditionComparison, actionElse, actionLink, clauseStatus, clauseName}
-use Rattle.scope.specs.Layout.{nodeElevation, junctionEmitter, tankInitial, tankMinimum, tankMaximum, tankDiameter, tankVolume, pipeLength, pipeDiameter, pipeRoughness, pipeMinor, pumpSpeed, pumpPower, valveSetting, valveDiameter, valveMinor, recordWords, roomNumbers}
+use Rattle.scope.specs.Layout.{nameLength, nodeKind, nodeName, nodeDetail, linkKind, linkDetail, linkName, clauseKind, conditionOperator, conditionTarget}
+use Rattle.scope.specs.Layout.{conditionComparison, actionElse, actionLink, clauseStatus, clauseName}
+use Rattle.scope.specs.Layout.{nodeElevation, junctionEmitter, tankInitial, tankMinimum, tankMaximum, tankDiameter, tankVolume, pipeLength, pipeDiameter}
+use Rattle.scope.specs.Layout.{pipeRoughness, pipeMinor, pumpSpeed, pumpPower, valveSetting, valveDiameter, valveMinor, recordWords, roomNumbers}
 use Rattle.scope.specs.declared.Tank as tankOut
 use Rattle.scope.specs.declared.Pipe as pipeOut
 use Rattle.scope.specs.declared.Pump as pumpOut
@@ -20,7 +22,8 @@ use Rattle.scope.specs.declared.LinkKind.the-variants as linkIs
 use Rattle.scope.specs.declared.Condition as conditionOut
 use Rattle.scope.specs.declared.Action as actionOut
 use Rattle.table_rows.specs.Holding.{Words, Numbers}
-use Rattle.table_codes.specs.Codes.{spanFrom, fieldFrom, foundFrom, pipeStatusFrom, typeFrom, targetFrom, comparisonFrom, operatorFrom, valueFrom, nameSpan, nameField, placeFound, amountOf}
+use Rattle.table_codes.specs.Codes.{pipeStatusFrom, typeFrom, targetFrom, comparisonFrom, operatorFrom, valueFrom}
+use Rattle.stored_words.specs.Words.{spanFrom, fieldFrom, foundFrom, nameSpan, nameField, placeFound, amountOf}
 use Rattle.stored_records.specs.declared.Junction as junctionOut
 use Rattle.stored_records.specs.declared.Reservoir as reservoirOut
 use Rattle.stored_records.specs.declared.NodeKind as kindOut

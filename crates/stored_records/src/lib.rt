@@ -6,8 +6,9 @@ ghost use lib.Ieee.{Float};
 ghost use lib.ListN.{length, getD};
 ghost use Rattle.scope.specs.Records.{Network, noNode, noLink, noRule, noClause};
 ghost use Rattle.scope.specs.Sections.{roomNodes, roomLinks, roomRules, roomClauses};
-ghost use Rattle.table_codes.specs.Codes.{spanFrom, fieldFrom};
-ghost use Rattle.stored_records.specs.Back.{Stands, wordsFrom, numbersFrom, junctionBy, reservoirBy, tankBy, kindBy, pipeBy, pumpBy, valveBy, linkKindBy, conditionBy, actionBy, clauseBy, nodeBack, linkBack, ruleBack, clauseBack};
+ghost use Rattle.stored_words.specs.Words.{spanFrom, fieldFrom};
+ghost use Rattle.stored_records.specs.Back.{Stands, wordsFrom, numbersFrom, junctionBy, reservoirBy, tankBy, kindBy, pipeBy, pumpBy, valveBy, linkKindBy};
+ghost use Rattle.stored_records.specs.Back.{conditionBy, actionBy, clauseBy, nodeBack, linkBack, ruleBack, clauseBack};
 ghost use Rattle.scope.specs.Layout.{nameLength, nodesWidth, linksWidth, clausesWidth, nodeNumbersWidth, linkNumbersWidth, recordWords, roomNumbers};
 use leaf_fields::Field;
 use leaf_fields::Span;
@@ -21,7 +22,7 @@ use scope::Pump;
 use scope::Tank;
 use scope::Value;
 use scope::Valve;
-use table_codes::Amount;
+use stored_words::Amount;
 
 // ---- what the records are
 
@@ -80,7 +81,7 @@ pub fn span_at(words: &[u64], at: usize) -> Span
     requires { ⌜ at + nameLength < length (now words) ⌝ }
     ensures { λ r. ⌜ r ≡ spanFrom (getD (now (words .entry)) at 0) (getD (now (words .entry)) (at + nameLength) 0) ⌝ }
 {
-    table_codes::span_from(
+    stored_words::span_from(
         words[at] as usize,
         words[at + table_rows::NAME_LENGTH] as usize,
     )
@@ -90,7 +91,7 @@ pub fn field_at(words: &[u64], at: usize) -> Field
     requires { ⌜ at + nameLength < length (now words) ⌝ }
     ensures { λ r. ⌜ r ≡ fieldFrom (getD (now (words .entry)) at 0) (getD (now (words .entry)) (at + nameLength) 0) ⌝ }
 {
-    table_codes::field_from(
+    stored_words::field_from(
         words[at] as usize,
         words[at + table_rows::NAME_LENGTH] as usize,
     )
@@ -114,7 +115,7 @@ fn reservoir_at(words: &[u64], numbers: &[f64], a: usize, b: usize) -> Reservoir
     ensures { λ r. ⌜ r ≡ reservoirBy (wordsFrom (now (words .entry)) a) (numbersFrom (now (numbers .entry)) b) ⌝ }
 {
     let pattern = field_at(words, a + table_rows::NODE_NAME);
-    let index = table_codes::found_from(words[a + table_rows::NODE_DETAIL]);
+    let index = stored_words::found_from(words[a + table_rows::NODE_DETAIL]);
     Reservoir {
         elevation: numbers[b + table_rows::NODE_ELEVATION],
         pattern,
@@ -173,7 +174,7 @@ fn node_row(words: &[u64], numbers: &[f64], i: usize) -> Node
 pub fn node_at(words: &[u64], numbers: &[f64], i: usize) -> Node
     ensures { λ r. ⌜ ((m : Network) → Stands m (now (words .entry)) (now (numbers .entry)) → r ≡ nodeBack (getD (m .nodes) i noNode)) ⌝ }
 {
-    if table_rows::have_room(words, numbers, table_rows::NODES_MOST, i) {
+    if stored_counts::have_room(words, numbers, table_rows::NODES_MOST, i) {
         return node_row(words, numbers, i);
     }
     Node {
@@ -265,7 +266,7 @@ fn link_row(words: &[u64], numbers: &[f64], i: usize) -> Link
 pub fn link_at(words: &[u64], numbers: &[f64], i: usize) -> Link
     ensures { λ r. ⌜ ((m : Network) → Stands m (now (words .entry)) (now (numbers .entry)) → r ≡ linkBack (getD (m .links) i noLink)) ⌝ }
 {
-    if table_rows::have_room(words, numbers, table_rows::LINKS_MOST, i) {
+    if stored_counts::have_room(words, numbers, table_rows::LINKS_MOST, i) {
         return link_row(words, numbers, i);
     }
     Link {
@@ -290,7 +291,7 @@ fn rule_row(words: &[u64], i: usize) -> Rule
 {
     let a = table_rows::RULES_AT + i * table_rows::RULES_WIDTH;
     let id = span_at(words, a);
-    let priority = table_codes::amount_from(
+    let priority = stored_words::amount_from(
         words[a + table_rows::RULE_PRIORITY_SET],
         words[a + table_rows::RULE_PRIORITY],
     );
@@ -306,7 +307,7 @@ fn rule_row(words: &[u64], i: usize) -> Rule
 pub fn rule_at(words: &[u64], i: usize) -> Rule
     ensures { λ r. ⌜ ((m : Network) (f : List Float) → Stands m (now (words .entry)) f → r ≡ ruleBack (getD (m .rules) i noRule)) ⌝ }
 {
-    if table_rows::has_room(words, table_rows::RULES_MOST, i) {
+    if stored_counts::has_room(words, table_rows::RULES_MOST, i) {
         return rule_row(words, i);
     }
     Rule {
@@ -374,7 +375,7 @@ fn clause_row(words: &[u64], numbers: &[f64], i: usize) -> Clause
 pub fn clause_at(words: &[u64], numbers: &[f64], i: usize) -> Clause
     ensures { λ r. ⌜ ((m : Network) → Stands m (now (words .entry)) (now (numbers .entry)) → r ≡ clauseBack (getD (m .clauses) i noClause)) ⌝ }
 {
-    if table_rows::have_room(words, numbers, table_rows::CLAUSES_MOST, i) {
+    if stored_counts::have_room(words, numbers, table_rows::CLAUSES_MOST, i) {
         return clause_row(words, numbers, i);
     }
     Clause::Action(Action {

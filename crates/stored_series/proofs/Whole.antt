@@ -3,7 +3,7 @@ use Prim.Native.Nat.{ℕ, _+_}
 use lib.Dec.{eqb}
 use lib.Ieee.{Float}
 use Rattle.scope.specs.Layout.{idPlace, idLength, nameLength, demandNode, demandOwn, demandName, demandIndex, pointX, pointY}
-use Rattle.table_codes.specs.Codes.{spanFrom, fieldFrom, foundFrom}
+use Rattle.stored_words.specs.Words.{spanFrom, fieldFrom, foundFrom}
 use Rattle.stored_series.specs.declared.Curve as curveOut
 use Rattle.stored_series.specs.declared.Pattern as patternOut
 use Rattle.stored_series.specs.declared.Point as pointOut

@@ -1,7 +1,7 @@
 -- A curve, point, pattern, multiplier or demand read back from the tables: what the code has for each record of the network. Assumes nothing.
 use Rattle.leaf_fields.specs.Fields.{Name}
 use Rattle.scope.specs.Records as R
-use Rattle.table_codes.specs.Codes.{nameSpan, nameField, placeFound}
+use Rattle.stored_words.specs.Words.{nameSpan, nameField, placeFound}
 use Rattle.stored_series.specs.declared.Curve as curveOut
 use Rattle.stored_series.specs.declared.Pattern as patternOut
 use Rattle.stored_series.specs.declared.Point as pointOut

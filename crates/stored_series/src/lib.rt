@@ -7,14 +7,14 @@ ghost use lib.Ieee.{Float};
 ghost use lib.ListN.{length, getD};
 ghost use Rattle.scope.specs.Records.{Network, noName, noDemand, noPoint, noMultiplier};
 ghost use Rattle.scope.specs.Sections.{roomCurves, roomPoints, roomPatterns, roomMultipliers, roomDemands};
-ghost use Rattle.table_codes.specs.Codes.{amountOf};
+ghost use Rattle.stored_words.specs.Words.{amountOf};
 ghost use Rattle.stored_records.specs.Back.{Stands};
 ghost use Rattle.stored_series.specs.Back.{curveBack, patternBack, pointBack, multiplierBack, demandBack};
 ghost use Rattle.scope.specs.Layout.{recordWords, roomNumbers, roomTimes};
 use leaf_fields::Field;
 use leaf_fields::Span;
 use scope::Found;
-use table_codes::Amount;
+use stored_words::Amount;
 
 // ---- what the records are
 
@@ -62,7 +62,7 @@ fn curve_row(words: &[u64], i: usize) -> Curve
 pub fn curve_at(words: &[u64], i: usize) -> Curve
     ensures { λ r. ⌜ ((m : Network) (f : List Float) → Stands m (now (words .entry)) f → r ≡ curveBack (getD (m .curves) i noName)) ⌝ }
 {
-    if table_rows::has_room(words, table_rows::CURVES_MOST, i) {
+    if stored_counts::has_room(words, table_rows::CURVES_MOST, i) {
         return curve_row(words, i);
     }
     Curve {
@@ -85,7 +85,7 @@ fn pattern_row(words: &[u64], i: usize) -> Pattern
 pub fn pattern_at(words: &[u64], i: usize) -> Pattern
     ensures { λ r. ⌜ ((m : Network) (f : List Float) → Stands m (now (words .entry)) f → r ≡ patternBack (getD (m .patterns) i noName)) ⌝ }
 {
-    if table_rows::has_room(words, table_rows::PATTERNS_MOST, i) {
+    if stored_counts::has_room(words, table_rows::PATTERNS_MOST, i) {
         return pattern_row(words, i);
     }
     Pattern {
@@ -109,7 +109,7 @@ fn point_row(words: &[u64], numbers: &[f64], i: usize) -> Point
 pub fn point_at(words: &[u64], numbers: &[f64], i: usize) -> Point
     ensures { λ r. ⌜ ((m : Network) → Stands m (now (words .entry)) (now (numbers .entry)) → r ≡ pointBack (getD (m .points) i noPoint)) ⌝ }
 {
-    if table_rows::have_room(words, numbers, table_rows::POINTS_MOST, i) {
+    if stored_counts::have_room(words, numbers, table_rows::POINTS_MOST, i) {
         return point_row(words, numbers, i);
     }
     Point {
@@ -133,7 +133,7 @@ fn multiplier_row(words: &[u64], numbers: &[f64], i: usize) -> Multiplier
 pub fn multiplier_at(words: &[u64], numbers: &[f64], i: usize) -> Multiplier
     ensures { λ r. ⌜ ((m : Network) → Stands m (now (words .entry)) (now (numbers .entry)) → r ≡ multiplierBack (getD (m .multipliers) i noMultiplier)) ⌝ }
 {
-    if table_rows::have_room(words, numbers, table_rows::MULTIPLIERS_MOST, i) {
+    if stored_counts::have_room(words, numbers, table_rows::MULTIPLIERS_MOST, i) {
         return multiplier_row(words, numbers, i);
     }
     Multiplier {
@@ -150,7 +150,7 @@ fn demand_row(words: &[u64], numbers: &[f64], i: usize) -> Demand
 {
     let a = table_rows::DEMANDS_AT + i * table_rows::DEMANDS_WIDTH;
     let pattern = stored_records::field_at(words, a + table_rows::DEMAND_NAME);
-    let index = table_codes::found_from(words[a + table_rows::DEMAND_INDEX]);
+    let index = stored_words::found_from(words[a + table_rows::DEMAND_INDEX]);
     Demand {
         node: words[a + table_rows::DEMAND_NODE] as usize,
         own: words[a + table_rows::DEMAND_OWN] == 1,
@@ -164,7 +164,7 @@ fn demand_row(words: &[u64], numbers: &[f64], i: usize) -> Demand
 pub fn demand_at(words: &[u64], numbers: &[f64], i: usize) -> Demand
     ensures { λ r. ⌜ ((m : Network) → Stands m (now (words .entry)) (now (numbers .entry)) → r ≡ demandBack (getD (m .demands) i noDemand)) ⌝ }
 {
-    if table_rows::have_room(words, numbers, table_rows::DEMANDS_MOST, i) {
+    if stored_counts::have_room(words, numbers, table_rows::DEMANDS_MOST, i) {
         return demand_row(words, numbers, i);
     }
     Demand {
@@ -181,7 +181,7 @@ fn time_row(words: &[u64], i: usize) -> Amount
     ensures { λ r. ⌜ ((m : Network) (f : List Float) → Stands m (now (words .entry)) f → r ≡ amountOf (getD (m .times) i none)) ⌝ }
 {
     let a = table_rows::TIMES_AT + i * table_rows::TIMES_WIDTH;
-    table_codes::amount_from(
+    stored_words::amount_from(
         words[a + table_rows::TIME_SET],
         words[a + table_rows::TIME_SECONDS],
     )
@@ -191,7 +191,7 @@ fn time_row(words: &[u64], i: usize) -> Amount
 pub fn time_at(words: &[u64], i: usize) -> Amount
     ensures { λ r. ⌜ ((m : Network) (f : List Float) → Stands m (now (words .entry)) f → r ≡ amountOf (getD (m .times) i none)) ⌝ }
 {
-    if table_rows::has_room(words, table_rows::TIMES_MOST, i) {
+    if stored_counts::has_room(words, table_rows::TIMES_MOST, i) {
         return time_row(words, i);
     }
     Amount::Unset

@@ -1,13 +1,9 @@
 -- The number of a case, read back, is the case. Assumes nothing.
-use Prim.Native.Nat.{ℕ, suc, _-_}
-use native.Mathlib.Omega.{arith}
+use Prim.Native.Nat.{_-_}
 use mathlib.Core.Path.{_≡_, refl}
 use mathlib.Core.Bool.{Bool, true, false}
-use mathlib.Core.Option.{Option, none, some}
-use lib.ListN.{getD}
 use lib.Dec.{eqb}
-use borrow.Author.Tests.{ne-eqb}
-use Rattle.scope.specs.Tables.{flag, indexNo, countWords, pipeStatusNo, typeNo, targetNo, comparisonNo, operatorNo, valueNo, valueNumber}
+use Rattle.scope.specs.Tables.{flag, pipeStatusNo, typeNo, targetNo, comparisonNo, operatorNo, valueNo, valueNumber}
 use Rattle.scope.specs.declared.PipeStatus.{PipeStatus}
 use Rattle.scope.specs.declared.PipeStatus.the-variants as pipeIs
 use Rattle.scope.specs.declared.LinkStatus.the-variants.{Open, Closed, Active}
@@ -25,18 +21,11 @@ use Rattle.scope.specs.declared.Operator.{Operator}
 use Rattle.scope.specs.declared.Operator.the-variants.{And, Or}
 use Rattle.scope.specs.declared.Value.{Value}
 use Rattle.scope.specs.declared.Value.the-variants.{Number, Status}
-use Rattle.table_codes.specs.Codes.{foundFrom, amountFrom, pipeStatusFrom, typeFrom, targetFrom, comparisonFrom, operatorFrom, valueFrom, placeFound, amountOf}
+use Rattle.table_codes.specs.Codes.{pipeStatusFrom, typeFrom, targetFrom, comparisonFrom, operatorFrom, valueFrom}
 
 pub flag-back : (b : Bool) → eqb (flag b) 1 ≡ b
 flag-back true = refl
 flag-back false = refl
-
-pub found-back : (o : Option ℕ) → foundFrom (indexNo o) ≡ placeFound o
-found-back none = refl
-found-back (some i) =
-    let more : eqb (suc i) 0 ≡ false = ne-eqb (suc i) 0 (λ e. omega arith) in
-    let less : suc i - 1 ≡ i = omega arith in
-    rw (more, less)
 
 pub pipe-status-back : (s : PipeStatus) → pipeStatusFrom (pipeStatusNo s) ≡ s
 pipe-status-back pipeIs.Open = refl
@@ -83,7 +72,3 @@ value-back (Number x) = refl
 value-back (Status Open) = refl
 value-back (Status Closed) = refl
 value-back (Status Active) = refl
-
-pub amount-back : (o : Option ℕ) → amountFrom (getD (countWords o) 0 0) (getD (countWords o) 1 0) ≡ amountOf o
-amount-back none = refl
-amount-back (some n) = refl

@@ -4,11 +4,9 @@ ghost use mathlib.Core.Path.{_≡_};
 ghost use Rattle.scope.specs.Answers.{reasonNo};
 ghost use Rattle.scope.specs.Tables.{pipeStatusNo, statusNo, typeNo, targetNo, comparisonNo, operatorNo, valueNo, valueNumber};
 ghost use Rattle.scope.specs.declared.Target.the-variants as target;
-ghost use Rattle.table_codes.specs.Codes.{spanFrom, fieldFrom, foundFrom, amountFrom, pipeStatusFrom, statusFrom, typeFrom, systemOrNode, tankOrLink, targetFrom, comparisonFrom, operatorFrom, valueFrom};
-use leaf_fields::Field;
-use leaf_fields::Span;
+ghost use Rattle.table_codes.specs.Codes.{pipeStatusFrom, statusFrom, typeFrom, systemOrNode, tankOrLink};
+ghost use Rattle.table_codes.specs.Codes.{targetFrom, comparisonFrom, operatorFrom, valueFrom};
 use scope::Comparison;
-use scope::Found;
 use scope::LinkAttribute;
 use scope::LinkStatus;
 use scope::NodeAttribute;
@@ -20,52 +18,6 @@ use scope::TankAttribute;
 use scope::Target;
 use scope::Value;
 use scope::ValveType;
-
-// A number that may be unset.
-pub enum Amount {
-    Set(u64),
-    Unset,
-}
-
-// ---- a name, an index and an amount, by their words
-
-// A span by its place and its length; one that would end beyond every place is empty.
-pub fn span_from(at: usize, long: usize) -> Span
-    ensures { λ r. ⌜ r ≡ spanFrom at long ⌝ }
-{
-    if 18446744073709551615 - at < long {
-        return Span { at, end: at };
-    }
-    Span { at, end: at + long }
-}
-
-// A field by its place and its length; no field is empty.
-pub fn field_from(at: usize, long: usize) -> Field
-    ensures { λ r. ⌜ r ≡ fieldFrom at long ⌝ }
-{
-    if long == 0 {
-        return Field::Nothing;
-    }
-    Field::Taken(span_from(at, long))
-}
-
-pub fn found_from(n: u64) -> Found
-    ensures { λ r. ⌜ r ≡ foundFrom n ⌝ }
-{
-    if n == 0 {
-        return Found::Nowhere;
-    }
-    Found::At((n - 1) as usize)
-}
-
-pub fn amount_from(n: u64, x: u64) -> Amount
-    ensures { λ r. ⌜ r ≡ amountFrom n x ⌝ }
-{
-    if n == 0 {
-        return Amount::Unset;
-    }
-    Amount::Set(x)
-}
 
 // ---- kinds: of a node, of a link, of a clause
 

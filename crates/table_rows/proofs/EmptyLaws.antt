@@ -8,8 +8,12 @@ use mathlib.Core.Option.{none}
 use lib.ListN.{length, replicate, length-append, replicate-append-replicate}
 use lib.Ieee.{Float}
 use Rattle.scope.specs.Records.{Network, zeroF, noNetwork, countsOf}
-use Rattle.scope.specs.Tables.{flat, region, blocks, idWords, countWords, nodeWords, nodeNumbers, linkWords, linkNumbers, pointWords, pointNumbers, multiplierWords, multiplierNumbers, demandWords, demandNumbers, ruleWords, clauseWords, clauseNumbers, slotsFrom, slots, idSlot, nodeSlot, linkSlot, demandSlot, wordBlocks, numberBlocks}
-use Rattle.scope.specs.Layout.{nodesLong, linksLong, curvesLong, pointsLong, patternsLong, multipliersLong, demandsLong, timesLong, rulesLong, clausesLong, nodeSlotsLong, linkSlotsLong, curveSlotsLong, patternSlotsLong, demandSlotsLong, nodeNumbersLong, linkNumbersLong, pointNumbersLong, multiplierNumbersLong, demandNumbersLong, clauseNumbersLong, recordWords, roomNumbers}
+use Rattle.scope.specs.Tables.{flat, region, blocks, idWords, countWords, nodeWords, nodeNumbers, linkWords, linkNumbers, pointWords, pointNumbers}
+use Rattle.scope.specs.Tables.{multiplierWords, multiplierNumbers, demandWords, demandNumbers, ruleWords, clauseWords, clauseNumbers, slotsFrom, slots, idSlot}
+use Rattle.scope.specs.Tables.{nodeSlot, linkSlot, demandSlot, wordBlocks, numberBlocks}
+use Rattle.scope.specs.Layout.{nodesLong, linksLong, curvesLong, pointsLong, patternsLong, multipliersLong, demandsLong, timesLong, rulesLong, clausesLong}
+use Rattle.scope.specs.Layout.{nodeSlotsLong, linkSlotsLong, curveSlotsLong, patternSlotsLong, demandSlotsLong, nodeNumbersLong, linkNumbersLong}
+use Rattle.scope.specs.Layout.{pointNumbersLong, multiplierNumbersLong, demandNumbersLong, clauseNumbersLong, recordWords, roomNumbers}
 use Rattle.table_rows.specs.Holding.{Known, Words, Numbers, Holds}
 use Rattle.table_rows.proofs.SlotLaws.{zero-at}
 use Rattle.table_rows.proofs.BlockLaws.{sum}

@@ -8,11 +8,4 @@ pub mod HoldLaws
 pub mod EmptyLaws
 pub mod ReadLaws
 pub mod ClearLaws
-pub mod KeyLaws
-pub mod PackLaws
-pub mod LookLaws
-pub mod WalkLaws
-pub mod StartLaws
 pub mod AfterLaws
-pub mod FindLaws
-pub mod RoomLaws

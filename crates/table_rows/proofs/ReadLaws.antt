@@ -8,14 +8,21 @@ use lib.ListN.{length, getD, length-map, List·getD-map}
 use lib.Dec.{eqb}
 use lib.Ieee.{Float}
 use Rattle.leaf_fields.specs.Fields.{Name}
-use Rattle.scope.specs.Records.{Network, Node, NodeKind, junction, reservoir, tank, Link, LinkKind, pipe, pump, valve, Point, Multiplier, Demand, Rule, Clause, noName, noNode, nodeIds, linkIds, ruleIds, noLink, noRule}
+use Rattle.scope.specs.Records.{Network, Node, NodeKind, junction, reservoir, tank, Link, LinkKind, pipe, pump, valve, Point, Multiplier, Demand, Rule, Clause}
+use Rattle.scope.specs.Records.{noName, noNode, nodeIds, linkIds, ruleIds, noLink, noRule}
 use Rattle.scope.specs.Rules.{isPipe, isPump, isValve}
-use Rattle.scope.specs.Tables.{keyOf, kindWords, linkKindWords, placed, idWords, countWords, nodeWords, nodeNumbers, linkWords, linkNumbers, pointNumbers, demandWords, ruleWords, clauseWords, clauseNumbers}
-use Rattle.scope.specs.Layout.{nodesAt, linksAt, curvesAt, pointsAt, patternsAt, multipliersAt, demandsAt, timesAt, rulesAt, clausesAt, nodesWidth, linksWidth, idWidth, demandsWidth, timesWidth, rulesWidth, clausesWidth, nodeNumbersAt, linkNumbersAt, pointNumbersAt, multiplierNumbersAt, demandNumbersAt, clauseNumbersAt, nodeNumbersWidth, linkNumbersWidth, pointNumbersWidth, nodeKind, linkKind, idPlace, idLength, idKey, curvesWidth, patternsWidth}
+use Rattle.scope.specs.Tables.{keyOf, kindWords, linkKindWords, placed, idWords, countWords, nodeWords, nodeNumbers, linkWords, linkNumbers, pointNumbers}
+use Rattle.scope.specs.Tables.{demandWords, ruleWords, clauseWords, clauseNumbers}
+use Rattle.scope.specs.Layout.{nodesAt, linksAt, curvesAt, pointsAt, patternsAt, multipliersAt, demandsAt, timesAt, rulesAt, clausesAt, nodesWidth, linksWidth}
+use Rattle.scope.specs.Layout.{idWidth, demandsWidth, timesWidth, rulesWidth, clausesWidth, nodeNumbersAt, linkNumbersAt, pointNumbersAt, multiplierNumbersAt}
+use Rattle.scope.specs.Layout.{demandNumbersAt, clauseNumbersAt, nodeNumbersWidth, linkNumbersWidth, pointNumbersWidth, nodeKind, linkKind, idPlace, idLength}
+use Rattle.scope.specs.Layout.{idKey, curvesWidth, patternsWidth}
 use Rattle.table_rows.specs.Holding.{Sits, NodeFine, LinkFine, RuleFine, Known, Words, Numbers, Rows, isJunction, kindNo, linkKindNo}
 use Rattle.table_rows.proofs.RegionLaws.{row-in}
 use Rattle.table_rows.proofs.BlockLaws.{get-word}
-use Rattle.table_rows.proofs.SizeLaws.{node-words-lie, link-words-lie, curve-words-lie, point-words-lie, pattern-words-lie, multiplier-words-lie, demand-words-lie, time-words-lie, rule-words-lie, clause-words-lie, node-numbers-lie, link-numbers-lie, point-numbers-lie, multiplier-numbers-lie, demand-numbers-lie, clause-numbers-lie}
+use Rattle.table_rows.proofs.SizeLaws.{node-words-lie, link-words-lie, curve-words-lie, point-words-lie, pattern-words-lie, multiplier-words-lie}
+use Rattle.table_rows.proofs.SizeLaws.{demand-words-lie, time-words-lie, rule-words-lie, clause-words-lie, node-numbers-lie, link-numbers-lie}
+use Rattle.table_rows.proofs.SizeLaws.{point-numbers-lie, multiplier-numbers-lie, demand-numbers-lie, clause-numbers-lie}
 use Rattle.table_rows.proofs.EmptyLaws.{words-long}
 use Rattle.table_rows.proofs.HoldLaws.{each-at}
 
@@ -57,13 +64,16 @@ module _ {text : List ℕ} {m : Network} {w : List ℕ} (h : Words text m w) whe
 
 -- ---- the numbers of record i; `d` is what a reading past the end gives
 module _ {text : List ℕ} {m : Network} {f : List Float} (k : Known text m) (h : Numbers m f) where
-  pub node-number : (i j : ℕ) (d : Float) (x0 : Node) → i < length (m .nodes) → j < nodeNumbersWidth → getD f (nodeNumbersAt + i * nodeNumbersWidth + j) d ≡ getD (nodeNumbers (getD (m .nodes) i x0)) j d
+  pub node-number : (i j : ℕ) (d : Float) (x0 : Node) → i < length (m .nodes) → j < nodeNumbersWidth
+      → getD f (nodeNumbersAt + i * nodeNumbersWidth + j) d ≡ getD (nodeNumbers (getD (m .nodes) i x0)) j d
   node-number i j d x0 hi hj = get-word (node-numbers-lie k) (h .exact) i j d x0 hi hj
 
-  pub link-number : (i j : ℕ) (d : Float) (x0 : Link) → i < length (m .links) → j < linkNumbersWidth → getD f (linkNumbersAt + i * linkNumbersWidth + j) d ≡ getD (linkNumbers (getD (m .links) i x0)) j d
+  pub link-number : (i j : ℕ) (d : Float) (x0 : Link) → i < length (m .links) → j < linkNumbersWidth
+      → getD f (linkNumbersAt + i * linkNumbersWidth + j) d ≡ getD (linkNumbers (getD (m .links) i x0)) j d
   link-number i j d x0 hi hj = get-word (link-numbers-lie k) (h .exact) i j d x0 hi hj
 
-  pub point-number : (i j : ℕ) (d : Float) (x0 : Point) → i < length (m .points) → j < pointNumbersWidth → getD f (pointNumbersAt + i * pointNumbersWidth + j) d ≡ getD (pointNumbers (getD (m .points) i x0)) j d
+  pub point-number : (i j : ℕ) (d : Float) (x0 : Point) → i < length (m .points) → j < pointNumbersWidth
+      → getD f (pointNumbersAt + i * pointNumbersWidth + j) d ≡ getD (pointNumbers (getD (m .points) i x0)) j d
   point-number i j d x0 hi hj = get-word (point-numbers-lie k) (h .exact) i j d x0 hi hj
 
   pub multiplier-number : (i : ℕ) (d : Float) (x0 : Multiplier) → i < length (m .multipliers) → getD f (multiplierNumbersAt + i) d ≡ getD (m .multipliers) i x0 .value
@@ -77,7 +87,8 @@ module _ {text : List ℕ} {m : Network} {f : List Float} (k : Known text m) (h 
 
 -- ---- rows of names
 -- from what stands in each record: the name's words come first
-rows-from : {R : Type 0} (text w : List ℕ) (base k : ℕ) (rs : List R) (r0 : R) (name : R → Name) → name r0 ≡ noName → ((i : ℕ) → i < length rs → Sits text (name (getD rs i r0))) → base + length rs * k ≤ length w → idWidth ≤ k
+rows-from : {R : Type 0} (text w : List ℕ) (base k : ℕ) (rs : List R) (r0 : R) (name : R → Name) → name r0 ≡ noName
+    → ((i : ℕ) → i < length rs → Sits text (name (getD rs i r0))) → base + length rs * k ≤ length w → idWidth ≤ k
     → ((i : ℕ) → i < length rs → getD w (base + i * k + idPlace) 0 ≡ name (getD rs i r0) .at)
     → ((i : ℕ) → i < length rs → getD w (base + i * k + idLength) 0 ≡ length (name (getD rs i r0) .letters))
     → ((i : ℕ) → i < length rs → getD w (base + i * k + idKey) 0 ≡ keyOf (name (getD rs i r0) .letters))
@@ -102,29 +113,34 @@ map-id (x ∷ l) = ap (λ (k : List Name). x ∷ k) (map-id l)
 module _ {text : List ℕ} {m : Network} {w : List ℕ} (h : Words text m w) where
   pub node-rows : Rows text w nodesAt nodesWidth (nodeIds m)
   node-rows =
-      rows-from text w nodesAt nodesWidth (m .nodes) noNode (λ n. n .id) refl (λ i hi. each-at (NodeFine text) (m .nodes) i noNode (h .known .nodes .fine) hi .0) (omega (arith, words-long h, h .known .nodes .bound)) (omega arith)
+      rows-from text w nodesAt nodesWidth (m .nodes) noNode (λ n. n .id) refl
+      (λ i hi. each-at (NodeFine text) (m .nodes) i noNode (h .known .nodes .fine) hi .0) (omega (arith, words-long h, h .known .nodes .bound)) (omega arith)
       (λ i hi. node-word h i idPlace noNode hi (omega arith)) (λ i hi. node-word h i idLength noNode hi (omega arith)) (λ i hi. node-word h i idKey noNode hi (omega arith))
 
   pub link-rows : Rows text w linksAt linksWidth (linkIds m)
   link-rows =
-      rows-from text w linksAt linksWidth (m .links) noLink (λ n. n .id) refl (λ i hi. each-at (LinkFine text) (m .links) i noLink (h .known .links .fine) hi) (omega (arith, words-long h, h .known .links .bound)) (omega arith)
+      rows-from text w linksAt linksWidth (m .links) noLink (λ n. n .id) refl (λ i hi. each-at (LinkFine text) (m .links) i noLink (h .known .links .fine) hi)
+      (omega (arith, words-long h, h .known .links .bound)) (omega arith)
       (λ i hi. link-word h i idPlace noLink hi (omega arith)) (λ i hi. link-word h i idLength noLink hi (omega arith)) (λ i hi. link-word h i idKey noLink hi (omega arith))
 
   pub curve-rows : Rows text w curvesAt curvesWidth (m .curves)
   curve-rows =
       rw (← map-id (m .curves))
-      (rows-from text w curvesAt curvesWidth (m .curves) noName (λ n. n) refl (λ i hi. each-at (Sits text) (m .curves) i noName (h .known .curves .fine) hi) (omega (arith, words-long h, h .known .curves .bound)) (omega arith)
+      (rows-from text w curvesAt curvesWidth (m .curves) noName (λ n. n) refl (λ i hi. each-at (Sits text) (m .curves) i noName (h .known .curves .fine) hi)
+      (omega (arith, words-long h, h .known .curves .bound)) (omega arith)
       (λ i hi. curve-word h i idPlace noName hi (omega arith)) (λ i hi. curve-word h i idLength noName hi (omega arith)) (λ i hi. curve-word h i idKey noName hi (omega arith)))
 
   pub pattern-rows : Rows text w patternsAt patternsWidth (m .patterns)
   pattern-rows =
       rw (← map-id (m .patterns))
-      (rows-from text w patternsAt patternsWidth (m .patterns) noName (λ n. n) refl (λ i hi. each-at (Sits text) (m .patterns) i noName (h .known .patterns .fine) hi) (omega (arith, words-long h, h .known .patterns .bound)) (omega arith)
+      (rows-from text w patternsAt patternsWidth (m .patterns) noName (λ n. n) refl
+      (λ i hi. each-at (Sits text) (m .patterns) i noName (h .known .patterns .fine) hi) (omega (arith, words-long h, h .known .patterns .bound)) (omega arith)
       (λ i hi. pattern-word h i idPlace noName hi (omega arith)) (λ i hi. pattern-word h i idLength noName hi (omega arith)) (λ i hi. pattern-word h i idKey noName hi (omega arith)))
 
   pub rule-rows : Rows text w rulesAt rulesWidth (ruleIds m)
   rule-rows =
-      rows-from text w rulesAt rulesWidth (m .rules) noRule (λ n. n .id) refl (λ i hi. each-at (RuleFine text) (m .rules) i noRule (h .known .rules .fine) hi) (omega (arith, words-long h, h .known .rules .bound)) (omega arith)
+      rows-from text w rulesAt rulesWidth (m .rules) noRule (λ n. n .id) refl (λ i hi. each-at (RuleFine text) (m .rules) i noRule (h .known .rules .fine) hi)
+      (omega (arith, words-long h, h .known .rules .bound)) (omega arith)
       (λ i hi. rule-word h i idPlace noRule hi (omega arith)) (λ i hi. rule-word h i idLength noRule hi (omega arith)) (λ i hi. rule-word h i idKey noRule hi (omega arith))
 
 pub node-count : (m : Network) → length (m .nodes) ≡ length (nodeIds m)

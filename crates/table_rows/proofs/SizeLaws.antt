@@ -5,8 +5,16 @@ use mathlib.Core.Path.{_≡_, refl}
 use mathlib.Core.List.{List, [], _∷_, map}
 use lib.ListN.{length}
 use Rattle.scope.specs.Records.{Network, zeroF}
-use Rattle.scope.specs.Tables.{region, idWords, countWords, nodeWords, nodeNumbers, linkWords, linkNumbers, pointWords, pointNumbers, multiplierWords, multiplierNumbers, demandWords, demandNumbers, ruleWords, clauseWords, clauseNumbers, idSlot, nodeSlot, linkSlot, demandSlot, wordBlocks, numberBlocks}
-use Rattle.scope.specs.Layout.{pointsWidth, multipliersWidth, multiplierNumbersWidth, demandNumbersWidth, clauseNumbersWidth, nodesLong, linksLong, curvesLong, pointsLong, patternsLong, multipliersLong, demandsLong, timesLong, rulesLong, clausesLong, nodeSlotsLong, linkSlotsLong, curveSlotsLong, patternSlotsLong, demandSlotsLong, nodeNumbersLong, linkNumbersLong, pointNumbersLong, multiplierNumbersLong, demandNumbersLong, clauseNumbersLong, nodesAt, linksAt, curvesAt, pointsAt, patternsAt, multipliersAt, demandsAt, timesAt, rulesAt, clausesAt, nodeSlotsAt, linkSlotsAt, curveSlotsAt, patternSlotsAt, demandSlotsAt, nodesWidth, linksWidth, demandsWidth, timesWidth, rulesWidth, clausesWidth, nodeNumbersAt, linkNumbersAt, pointNumbersAt, multiplierNumbersAt, demandNumbersAt, clauseNumbersAt, nodeNumbersWidth, linkNumbersWidth, pointNumbersWidth, curvesWidth, patternsWidth}
+use Rattle.scope.specs.Tables.{region, idWords, countWords, nodeWords, nodeNumbers, linkWords, linkNumbers, pointWords, pointNumbers, multiplierWords}
+use Rattle.scope.specs.Tables.{multiplierNumbers, demandWords, demandNumbers, ruleWords, clauseWords, clauseNumbers, idSlot, nodeSlot, linkSlot, demandSlot}
+use Rattle.scope.specs.Tables.{wordBlocks, numberBlocks}
+use Rattle.scope.specs.Layout.{pointsWidth, multipliersWidth, multiplierNumbersWidth, demandNumbersWidth, clauseNumbersWidth, nodesLong, linksLong, curvesLong}
+use Rattle.scope.specs.Layout.{pointsLong, patternsLong, multipliersLong, demandsLong, timesLong, rulesLong, clausesLong, nodeSlotsLong, linkSlotsLong}
+use Rattle.scope.specs.Layout.{curveSlotsLong, patternSlotsLong, demandSlotsLong, nodeNumbersLong, linkNumbersLong, pointNumbersLong, multiplierNumbersLong}
+use Rattle.scope.specs.Layout.{demandNumbersLong, clauseNumbersLong, nodesAt, linksAt, curvesAt, pointsAt, patternsAt, multipliersAt, demandsAt, timesAt}
+use Rattle.scope.specs.Layout.{rulesAt, clausesAt, nodeSlotsAt, linkSlotsAt, curveSlotsAt, patternSlotsAt, demandSlotsAt, nodesWidth, linksWidth, demandsWidth}
+use Rattle.scope.specs.Layout.{timesWidth, rulesWidth, clausesWidth, nodeNumbersAt, linkNumbersAt, pointNumbersAt, multiplierNumbersAt, demandNumbersAt}
+use Rattle.scope.specs.Layout.{clauseNumbersAt, nodeNumbersWidth, linkNumbersWidth, pointNumbersWidth, curvesWidth, patternsWidth}
 use Rattle.scope.proofs.Widths.{count-long, node-long, node-numbers-long, link-long, link-numbers-long, demand-long, rule-long, clause-long, clause-numbers-long}
 use Rattle.table_rows.specs.Holding.{Known}
 use Rattle.table_rows.proofs.RegionLaws.{region-length}
@@ -15,7 +23,8 @@ use Rattle.table_rows.proofs.BlockLaws.{Lies, Slotted}
 
 -- ---- regions
 abbrev pub wordSizes : List ℕ
-wordSizes = nodesLong ∷ linksLong ∷ curvesLong ∷ pointsLong ∷ patternsLong ∷ multipliersLong ∷ demandsLong ∷ timesLong ∷ rulesLong ∷ clausesLong ∷ nodeSlotsLong ∷ linkSlotsLong ∷ curveSlotsLong ∷ patternSlotsLong ∷ demandSlotsLong ∷ []
+wordSizes = nodesLong ∷ linksLong ∷ curvesLong ∷ pointsLong ∷ patternsLong ∷ multipliersLong ∷ demandsLong ∷ timesLong ∷ rulesLong ∷ clausesLong ∷ nodeSlotsLong
+    ∷ linkSlotsLong ∷ curveSlotsLong ∷ patternSlotsLong ∷ demandSlotsLong ∷ []
 
 abbrev pub numberSizes : List ℕ
 numberSizes = nodeNumbersLong ∷ linkNumbersLong ∷ pointNumbersLong ∷ multiplierNumbersLong ∷ demandNumbersLong ∷ clauseNumbersLong ∷ []

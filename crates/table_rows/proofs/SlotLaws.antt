@@ -114,7 +114,8 @@ module _ {R : Type 0} (slot : R → ℕ) where
       let f = from-first (suc i) rs (marked ss (slot r) (suc i)) j r0 (omega arith) (omega (arith, l, b)) u in
       (f .0, omega (arith, f .1))
 
-  pub slots-first : (n : ℕ) (rs : List R) (j : ℕ) (r0 : R) → j < length rs → slot (getD rs j r0) < n → (0 < getD (slots slot n rs) (slot (getD rs j r0)) 0) × (getD (slots slot n rs) (slot (getD rs j r0)) 0 ≤ suc j)
+  pub slots-first : (n : ℕ) (rs : List R) (j : ℕ) (r0 : R) → j < length rs → slot (getD rs j r0) < n
+      → (0 < getD (slots slot n rs) (slot (getD rs j r0)) 0) × (getD (slots slot n rs) (slot (getD rs j r0)) 0 ≤ suc j)
   slots-first n rs j r0 hj b =
       let f = from-first 0 rs (replicate n 0) j r0 hj (omega (arith, b, length-replicate {A = ℕ} n 0)) (omega (arith, zero-at n (slot (getD rs j r0)))) in
       (f .0, omega (arith, f .1))

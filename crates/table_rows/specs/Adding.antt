@@ -5,7 +5,8 @@ use Rattle.leaf_fields.specs.Fields.{Name}
 use Rattle.scope.specs.Records.{Node, Link, Demand}
 use Rattle.scope.specs.Tables.{marked, idWords, nodeWords, linkWords, demandWords, idSlot, nodeSlot, linkSlot, demandSlot}
 use Rattle.table_rows.specs.Table.{splice}
-use Rattle.scope.specs.Layout.{nodesAt, linksAt, curvesAt, patternsAt, demandsAt, nodesWidth, linksWidth, demandsWidth, nodeSlotsAt, linkSlotsAt, curveSlotsAt, patternSlotsAt, demandSlotsAt, curvesWidth, patternsWidth}
+use Rattle.scope.specs.Layout.{nodesAt, linksAt, curvesAt, patternsAt, demandsAt, nodesWidth, linksWidth, demandsWidth, nodeSlotsAt, linkSlotsAt, curveSlotsAt}
+use Rattle.scope.specs.Layout.{patternSlotsAt, demandSlotsAt, curvesWidth, patternsWidth}
 
 -- node number n
 abbrev pub nodeAdded : List ℕ → ℕ → Node → List ℕ

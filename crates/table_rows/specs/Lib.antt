@@ -2,5 +2,3 @@
 pub mod Table
 pub mod Holding
 pub mod Adding
-pub mod Finding
-pub mod Room

@@ -1,29 +1,23 @@
-// The two tables that the caller lends: their layout, a record pasted, a name looked up.
+// The two tables that the caller lends: their layout, and what is stored of a record.
 ghost use mathlib.Core.Path.{_≡_};
-ghost use mathlib.Core.List.{List};
-ghost use Prim.Native.Nat.{ℕ, _+_, _≤_, _<_};
-ghost use lib.ListN.{length, getD, take, replicate};
-ghost use Rattle.leaf_fields.specs.Fields.{Name, nameIn, part};
-ghost use Rattle.leaf_letters.specs.Words.{same};
-ghost use Rattle.scope.specs.Records.{Network, zeroF, lookup, nodeIds, noNode, countsOf, recordsOf, idsOf, noLink};
-ghost use Rattle.scope.specs.Rules.{isPipe, isPump, isValve};
+ghost use Rattle.scope.specs.Sections.{roomCurves};
+ghost use Prim.Native.Nat.{_+_, _*_, _≤_, _<_};
+ghost use lib.ListN.{length, replicate};
+ghost use Rattle.leaf_fields.specs.Fields.{nameIn};
+ghost use Rattle.scope.specs.Records.{zeroF};
 ghost use Rattle.scope.specs.Series.{placeIn};
-ghost use Rattle.scope.specs.Tables.{packed, keyOf, marked, slotOf, idWords, nameWords, flag, indexNo};
-ghost use Rattle.scope.specs.Sections.{roomNodes, roomLinks};
-ghost use Rattle.scope.specs.Layout.{recordWords};
+ghost use Rattle.scope.specs.Tables.{marked, slotOf, idSlot, idWords, nameWords, flag, indexNo};
+ghost use Rattle.scope.specs.Layout.{patternsAt, patternSlotsAt, idWidth, recordWords};
 ghost use Rattle.table_rows.specs.Table.{splice};
-ghost use Rattle.table_rows.specs.Room.{hasRoom, haveRoom};
-ghost use Rattle.table_rows.specs.Finding.{baseOf, widthOf, StartsAt};
-ghost use Rattle.table_rows.specs.Holding.{optIn, Words, Row, Rows, SomeRow, SomeRows, OtherNames, NotInSlot, FirstInSlot, Below, isJunction};
+ghost use Rattle.table_rows.specs.Holding.{optIn, Below};
 use leaf_fields::Field;
 use leaf_fields::Span;
 use scope::Counts;
 use scope::Found;
-use scope::Kind;
 use scope::Reason;
 
-// ---- the layout (docs/LAYOUT.md): a place is the place before it plus what stands there. Nothing else says so but crates/scope/specs/Layout.antt, and the program
-// `layout` proves that the two agree.
+// ---- the layout (docs/LAYOUT.md): a place is the place before it plus what stands there. Nothing else says so but crates/scope/specs/Layout.antt, and
+// `table_layout` proves that the two agree.
 
 // How many records of each kind there is room for, and how long a text may be.
 
@@ -332,71 +326,6 @@ pub fn clear_numbers(numbers: &mut [f64])
     }
 }
 
-// ---- names
-
-// The first eight letters as one number.
-fn name_key(name: &[u8]) -> u64
-    ensures { λ r. ⌜ r ≡ keyOf (now (name .entry)) ⌝ }
-{
-    let l = leaf_letters::cut(name, 0, 8);
-    let mut k: u64 = 0;
-    let mut i = 0;
-    while i < l.len() {
-        k = k * 256 + l[i] as u64;
-        i += 1;
-    }
-    k
-}
-
-// Four bytes as one number, the first the highest.
-fn four_letters(b: &[u8]) -> u64
-    requires { ⌜ length (now b) ≡ 4 ⌝ }
-    ensures { λ r. ⌜ r ≡ packed 0 (now (b .entry)) ⌝ }
-{
-    ((b[0] as u64 * 256 + b[1] as u64) * 256 + b[2] as u64) * 256 + b[3] as u64
-}
-
-// Eight bytes as one number. The compiler loads them at once.
-fn eight_letters(b: &[u8]) -> u64
-    requires { ⌜ length (now b) ≡ 8 ⌝ }
-    ensures { λ r. ⌜ r ≡ packed 0 (now (b .entry)) ⌝ }
-{
-    four_letters(&b[..4]) * 0x1_0000_0000 + four_letters(&b[4..])
-}
-
-// The first n letters as one number, letter by letter. The compiler never puts a function that calls itself in the place of its call: here that is wanted, as few names get here and
-// a loop in each place where a name is looked up costs more than the call.
-fn far_key(l: &[u8], n: usize) -> u64
-    requires { ⌜ (n ≤ 8) × (n ≤ length (now l)) ⌝ }
-    ensures { λ r. ⌜ r ≡ packed 0 (take n (now (l .entry))) ⌝ }
-{
-    if n == 0 {
-        return 0;
-    }
-    let m = n - 1;
-    far_key(l, m) * 256 + l[m] as u64
-}
-
-// The key of a name where it stands in the text. Of a short name with more text behind it eight bytes are taken at once, and those that are not its own shifted out.
-fn key_at(text: &[u8], name: Span) -> u64
-    ensures { λ r. ⌜ r ≡ keyOf (part (name .at) (name .end) (now (text .entry))) ⌝ }
-{
-    let l = leaf_fields::letters_of(text, name);
-    let n = l.len();
-    if n == 0 {
-        return 0;
-    }
-    if 8 <= n {
-        return far_key(l, 8);
-    }
-    let at = name.at;
-    if 8 <= text.len() - at {
-        let e = at + 8;
-        return eight_letters(&text[at..e]) >> (64 - 8 * n);
-    }
-    far_key(l, n)
-}
-
 // ---- slots: where a walk over the rows of a table may start
 
 // The slot of a record among those of its table, by the key of its name.
@@ -416,151 +345,6 @@ pub fn mark(words: &mut [u64], at: usize, i: usize)
     }
 }
 
-// The first of `count` rows that has the slot at `at`; where none has it, past them all.
-pub fn first_in_slot(words: &[u64], at: usize, count: usize) -> usize
-    requires { ⌜ at < length (now words) ⌝ }
-    ensures { λ r. ⌜ (r ≤ count) × NotInSlot (getD (now (words .entry)) at 0) r × FirstInSlot (getD (now (words .entry)) at 0) count r ⌝ }
-{
-    let v = words[at] as usize;
-    if v == 0 {
-        return count;
-    }
-    if count < v {
-        return count;
-    }
-    v - 1
-}
-
-// ---- names looked up
-
-// Whether the row at `row` has the name: its key is compared first, then its length.
-// The key has the first eight letters, so only longer names are compared letter by letter.
-fn row_is(text: &[u8], words: &[u64], row: usize, key: u64, name: &[u8]) -> bool
-    requires { ⌜ SomeRow (now text) (now words) row × (key ≡ keyOf (now name)) ⌝ }
-    ensures { λ r. ⌜ ((n : Name) → Row (now (text .entry)) (now (words .entry)) row n → r ≡ same (n .letters) (now (name .entry))) ⌝ }
-{
-    if words[row + ID_KEY] != key {
-        return false;
-    }
-    let n = words[row + ID_LENGTH] as usize;
-    if n != name.len() {
-        return false;
-    }
-    if n <= 8 {
-        return true;
-    }
-    let a = words[row] as usize;
-    let e = a + n;
-    leaf_letters::equal(&text[a..e], name)
-}
-
-// The first of `count` rows that has the name, which has the key; no row before number `from` has it.
-fn walk_rows(
-    text: &[u8],
-    words: &[u64],
-    base: usize,
-    stride: usize,
-    from: usize,
-    count: usize,
-    key: u64,
-    name: &[u8],
-) -> Found
-    requires { ⌜ SomeRows (now text) (now words) base stride count × (base < 65536) × (key ≡ keyOf (now name)) × (from ≤ count) × OtherNames (now text) (now words) base stride (now name) from ⌝ }
-    ensures { λ r. ⌜ ((ns : List Name) → count ≡ length ns → Rows (now (text .entry)) (now (words .entry)) base stride ns → r ≡ lookup ns (now (name .entry))) ⌝ }
-{
-    let mut i = from;
-    while i < count {
-        let row = base + i * stride;
-        if row_is(text, words, row, key, name) {
-            return Found::At(i);
-        }
-        i += 1;
-    }
-    Found::Nowhere
-}
-
-fn base_of(kind: Kind) -> usize
-    ensures { λ r. ⌜ r ≡ baseOf kind ⌝ }
-{
-    match kind {
-        Kind::Nodes => NODES_AT,
-        Kind::Links => LINKS_AT,
-        Kind::Curves => CURVES_AT,
-        Kind::Patterns => PATTERNS_AT,
-        Kind::Rules => RULES_AT,
-    }
-}
-
-fn width_of(kind: Kind) -> usize
-    ensures { λ r. ⌜ r ≡ widthOf kind ⌝ }
-{
-    match kind {
-        Kind::Nodes => NODES_WIDTH,
-        Kind::Links => LINKS_WIDTH,
-        Kind::Curves => CURVES_WIDTH,
-        Kind::Patterns => PATTERNS_WIDTH,
-        Kind::Rules => RULES_WIDTH,
-    }
-}
-
-// The row from which on a name of the key is looked for: no row before it has such a name. Rules have no slots.
-fn start_of(words: &[u64], kind: Kind, key: u64, count: usize) -> usize
-    requires { ⌜ length (now words) ≡ recordWords ⌝ }
-    ensures { λ r. ⌜ (r ≤ count) × StartsAt (now (words .entry)) kind key count r ⌝ }
-{
-    let slot = slot_of(key);
-    match kind {
-        Kind::Nodes => first_in_slot(words, NODE_SLOTS_AT + slot, count),
-        Kind::Links => first_in_slot(words, LINK_SLOTS_AT + slot, count),
-        Kind::Curves => first_in_slot(words, CURVE_SLOTS_AT + slot, count),
-        Kind::Patterns => first_in_slot(words, PATTERN_SLOTS_AT + slot, count),
-        Kind::Rules => 0,
-    }
-}
-
-// The record of the kind, of which there are `count`, that has the name; the name has the key.
-pub fn find(text: &[u8], words: &[u64], kind: Kind, count: usize, key: u64, name: &[u8]) -> Found
-    requires { ⌜ ((m : Network) × Words (now text) m (now words) × (count ≡ recordsOf kind (countsOf m))) × (key ≡ keyOf (now name)) ⌝ }
-    ensures { λ r. ⌜ ((m : Network) → Words (now (text .entry)) m (now (words .entry)) → count ≡ recordsOf kind (countsOf m) → r ≡ lookup (idsOf kind m) (now (name .entry))) ⌝ }
-{
-    let from = start_of(words, kind, key, count);
-    walk_rows(
-        text,
-        words,
-        base_of(kind),
-        width_of(kind),
-        from,
-        count,
-        key,
-        name,
-    )
-}
-
-// The same of a name whose key is not made yet, wherever its letters stand.
-pub fn find_named(text: &[u8], words: &[u64], kind: Kind, count: usize, name: &[u8]) -> Found
-    requires { ⌜ ((m : Network) × Words (now text) m (now words) × (count ≡ recordsOf kind (countsOf m))) ⌝ }
-    ensures { λ r. ⌜ ((m : Network) → Words (now (text .entry)) m (now (words .entry)) → count ≡ recordsOf kind (countsOf m) → r ≡ lookup (idsOf kind m) (now (name .entry))) ⌝ }
-{
-    find(text, words, kind, count, name_key(name), name)
-}
-
-// The same of a name where it stands in the text, whose key is then made of eight letters at once.
-pub fn find_at(text: &[u8], words: &[u64], kind: Kind, count: usize, name: Span) -> Found
-    requires { ⌜ ((m : Network) × Words (now text) m (now words) × (count ≡ recordsOf kind (countsOf m))) ⌝ }
-    ensures { λ r. ⌜ ((m : Network) → Words (now (text .entry)) m (now (words .entry)) → count ≡ recordsOf kind (countsOf m) → r ≡ lookup (idsOf kind m) (part (name .at) (name .end) (now (text .entry)))) ⌝ }
-{
-    let l = leaf_fields::letters_of(text, name);
-    find(text, words, kind, count, key_at(text, name), l)
-}
-
-// Where the node of the name stands.
-pub fn node_named(text: &[u8], words: &[u64], nodes: usize, name: Span) -> Found
-    requires { ⌜ ((m : Network) × Words (now text) m (now words) × (nodes ≡ length (m .nodes))) ⌝ }
-    ensures { λ r. ⌜ ((m : Network) → Words (now (text .entry)) m (now (words .entry)) → nodes ≡ length (m .nodes) → r ≡ lookup (nodeIds m) (part (name .at) (name .end) (now (text .entry)))) ⌝ }
-{
-    find_at(text, words, Kind::Nodes, nodes, name)
-}
-
 // ---- what the words and numbers of a record are
 
 // The place, the length and the key of a name.
@@ -568,7 +352,7 @@ pub fn id_words(text: &[u8], id: Span) -> [u64; ID_WIDTH]
     ensures { λ r. ⌜ r ≡ idWords (nameIn (now (text .entry)) id) ⌝ }
 {
     let l = leaf_fields::letters_of(text, id);
-    [id.at as u64, l.len() as u64, key_at(text, id)]
+    [id.at as u64, l.len() as u64, table_keys::key_at(text, id)]
 }
 
 // The place and the length of a name that may be missing.
@@ -599,54 +383,16 @@ pub fn index_number(f: Found) -> u64
     }
 }
 
-// ---- what a record is
+// ---- a record that is its id alone
 
-pub fn is_junction(words: &[u64], i: usize) -> bool
-    requires { ⌜ (i < roomNodes) × (length (now words) ≡ recordWords) ⌝ }
-    ensures { λ r. ⌜ ((text : List ℕ) (m : Network) → Words text m (now (words .entry)) → i < length (m .nodes) → r ≡ isJunction (getD (m .nodes) i noNode .kind)) ⌝ }
+// A curve's name, or a pattern's, as record n of those at `base`, and its slot of those at `slots`: the record of either is its id alone.
+pub fn put_id(text: &[u8], id: Span, n: usize, base: usize, slots: usize, words: &mut [u64])
+    requires { ⌜ (n < roomCurves) × (base ≤ patternsAt) × (slots ≤ patternSlotsAt) × (length (now words) ≡ recordWords) ⌝ }
+    ensures { λ _. ⌜ now (words .exit) ≡ marked (splice (now (words .entry)) (base + n * idWidth) (idWords (nameIn (now (text .entry)) id)))
+        (slots + idSlot (nameIn (now (text .entry)) id)) (n + 1) ⌝ }
 {
-    words[NODES_AT + i * NODES_WIDTH + NODE_KIND] == table_codes::JUNCTION
-}
-
-pub fn is_pipe(words: &[u64], i: usize) -> bool
-    requires { ⌜ (i < roomLinks) × (length (now words) ≡ recordWords) ⌝ }
-    ensures { λ r. ⌜ ((text : List ℕ) (m : Network) → Words text m (now (words .entry)) → i < length (m .links) → r ≡ isPipe (getD (m .links) i noLink .kind)) ⌝ }
-{
-    words[LINKS_AT + i * LINKS_WIDTH + LINK_KIND] == table_codes::PIPE
-}
-
-pub fn is_pump(words: &[u64], i: usize) -> bool
-    requires { ⌜ (i < roomLinks) × (length (now words) ≡ recordWords) ⌝ }
-    ensures { λ r. ⌜ ((text : List ℕ) (m : Network) → Words text m (now (words .entry)) → i < length (m .links) → r ≡ isPump (getD (m .links) i noLink .kind)) ⌝ }
-{
-    words[LINKS_AT + i * LINKS_WIDTH + LINK_KIND] == table_codes::PUMP
-}
-
-pub fn is_valve(words: &[u64], i: usize) -> bool
-    requires { ⌜ (i < roomLinks) × (length (now words) ≡ recordWords) ⌝ }
-    ensures { λ r. ⌜ ((text : List ℕ) (m : Network) → Words text m (now (words .entry)) → i < length (m .links) → r ≡ isValve (getD (m .links) i noLink .kind)) ⌝ }
-{
-    words[LINKS_AT + i * LINKS_WIDTH + LINK_KIND] == table_codes::VALVE
-}
-
-// ---- whether there is room
-
-// The words are long enough for a network, and a region has room for a record i.
-pub fn has_room(words: &[u64], room: usize, i: usize) -> bool
-    ensures { λ r. ⌜ r ≡ hasRoom (length (now (words .entry))) room i ⌝ }
-{
-    if RECORD_WORDS <= words.len() {
-        return i < room;
-    }
-    false
-}
-
-// And the numbers are long enough.
-pub fn have_room(words: &[u64], numbers: &[f64], room: usize, i: usize) -> bool
-    ensures { λ r. ⌜ r ≡ haveRoom (length (now (words .entry))) (length (now (numbers .entry))) room i ⌝ }
-{
-    if NUMBERS_ROOM <= numbers.len() {
-        return has_room(words, room, i);
-    }
-    false
+    let name = id_words(text, id);
+    paste_words(words, base + n * ID_WIDTH, &name);
+    let slot = slot_of(name[ID_KEY]);
+    mark(words, slots + slot, n);
 }

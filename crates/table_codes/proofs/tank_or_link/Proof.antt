@@ -1,3 +1,4 @@
+-- `table_codes::tank_or_link` meets its contract. Assumes nothing.
 use borrow.Author.Tests.{ne-eqb}
 use Rattle.table_codes.proofs.tank_or_link.Statement.{statement}
 use Rattle.table_codes.proofs.tank_or_link.Tie as tie
@@ -18,7 +19,16 @@ returns-5 : tie.Need-returns-5
 returns-5 c = rw (c .if5 .taken)
 
 returns-6 : tie.Need-returns-6
-returns-6 c = rw (ne-eqb (c .before .before .before .before .before .args .n) 7 (c .before .before .before .before .if1 .left), ne-eqb (c .before .before .before .before .before .args .n) 8 (c .before .before .before .if2 .left), ne-eqb (c .before .before .before .before .before .args .n) 9 (c .before .before .if3 .left), ne-eqb (c .before .before .before .before .before .args .n) 10 (c .before .if4 .left), ne-eqb (c .before .before .before .before .before .args .n) 11 (c .if5 .left))
+returns-6 c =
+    let c3 = c .before .before .before in
+    let c5 = c3 .before .before in
+    rw (
+      ne-eqb (c5 .args .n) 7 (c3 .before .if1 .left),
+      ne-eqb (c5 .args .n) 8 (c3 .if2 .left),
+      ne-eqb (c5 .args .n) 9 (c .before .before .if3 .left),
+      ne-eqb (c5 .args .n) 10 (c .before .if4 .left),
+      ne-eqb (c5 .args .n) 11 (c .if5 .left),
+    )
 
 pub tank-or-link-spec : {M : Type 1} → statement M
 tank-or-link-spec = tie.close (tie.spec returns returns-2 returns-3 returns-4 returns-5 returns-6)

