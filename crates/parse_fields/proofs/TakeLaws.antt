@@ -19,32 +19,36 @@ use Rattle.leaf_digits.specs.Ends.{wordLen}
 use Rattle.leaf_digits.proofs.Lists.{tail-of}
 use Rattle.leaf_fields.specs.Fields.{startAt}
 use Rattle.leaf_fields.specs.declared.Span.{Span}
-use Rattle.leaf_fields.specs.Fields.{part, nameIn, fieldsAt, rest, lettersOr, Next}
+use Rattle.leaf_fields.specs.Fields.{Name, part, nameIn, fieldsAt, rest, lettersOr, Next}
 use Rattle.leaf_fields.proofs.FieldLaws.{length-part, skipped, word-over, next-nothing, next-word}
 use Rattle.leaf_fields.specs.declared.Field.{Field}
 use Rattle.leaf_fields.specs.declared.Field.the-variants.{Taken, Nothing}
+use Rattle.scope.specs.declared.Reason.{Reason}
 use Rattle.scope.specs.declared.Reason.the-variants as reason
-use Rattle.scope.specs.Values.{took, refused, asNumber, asSwallowed, numberFrom, numberOr, swallowedFrom, optionalFrom}
+use Rattle.scope.specs.Values.{Read, bad, Took, took, refused, asNumber, asSwallowed, numberFrom, numberOr, swallowedFrom, optionalFrom}
+use Rattle.parse_fields.specs.declared.TookNumber.{TookNumber}
 use Rattle.parse_fields.specs.declared.TookNumber.the-variants.{NoNumber}
 use Rattle.parse_fields.specs.declared.NextNumber.{NextNumber}
 use Rattle.parse_fields.specs.declared.NextNumber.the-variants as next
-use Rattle.parse_fields.specs.Taking.{tookNumber, numberTook, swallowTook, Numbered, optIn, MayFit}
+use Rattle.parse_fields.specs.Taking.{tookNumber, numberTook, reasonIn, Numbered, optIn, MayFit}
+
+-- what was taken, and why nothing was, once it is known which answer it was
+pub told-number : (l : List ℕ) {t u : TookNumber} {o : Took Float} → tookNumber l t ≡ o → t ≡ u → o ≡ tookNumber l u
+told-number l h e = sym h ∙ ap (tookNumber l) e
+
+pub told-why : {A : Type 0} {t : TookNumber} {r why : Reason} → r ≡ reasonIn t → t ≡ NoNumber why → _≡_ {A = Read A} (bad why) (bad r)
+told-why h e = ap bad (sym (h ∙ ap reasonIn e))
 
 pub took-as : (l : List ℕ) (n : N.Number) (next : ℕ) → tookNumber l (numberTook n next) ≡ asNumber n (fieldsAt l next)
 took-as l (Value x) next = refl
 took-as l Malformed next = refl
 took-as l Beyond next = refl
 
-pub swallowed-as : (l : List ℕ) (d : Float) (n : N.Number) (next : ℕ) → tookNumber l (swallowTook d n next) ≡ asSwallowed d n (fieldsAt l next)
-swallowed-as l d (Value x) next = refl
-swallowed-as l d Malformed next = refl
-swallowed-as l d Beyond next = refl
-
 -- neither a value nor malformed
-pub beyond : (d : Float) (n : N.Number) (next : ℕ) → OneOf (1 ∷ 2 ∷ []) (tagOf the-type n) → OneOf (0 ∷ 2 ∷ []) (tagOf the-type n) → NoNumber reason.BeyondReach ≡ swallowTook d n next
-beyond d (Value x) next h k = absurd (miss (1 ∷ 2 ∷ []) 0 tt h)
-beyond d Malformed next h k = absurd (miss (0 ∷ 2 ∷ []) 1 tt k)
-beyond d Beyond next h k = refl
+pub beyond : (d : Float) (n : N.Number) (fs : List Name) → OneOf (1 ∷ 2 ∷ []) (tagOf the-type n) → OneOf (0 ∷ 2 ∷ []) (tagOf the-type n) → refused reason.BeyondReach ≡ asSwallowed d n fs
+beyond d (Value x) fs h k = absurd (miss (1 ∷ 2 ∷ []) 0 tt h)
+beyond d Malformed fs h k = absurd (miss (0 ∷ 2 ∷ []) 1 tt k)
+beyond d Beyond fs h k = refl
 
 -- ---- the number of the next field
 pub numbered-read : (l : List ℕ) (at : ℕ) (f : Field) → Next l at f → (s : Span) → f ≡ Taken s → (w : List ℕ) → w ≡ part (s .at) (s .end) l → (n : N.Number) → n ≡ numberOf w
@@ -111,8 +115,8 @@ module _ (l : List ℕ) (at : ℕ) (r : NextNumber) (h : Numbered l at r) where
     pub took-next : tookNumber l (numberTook n end) ≡ numberFrom (fieldsAt l at)
     took-next = let (f, k, q) = is in rw k (took-as l n end ∙ ap (λ (x : N.Number). asNumber x (fieldsAt l end)) q)
 
-    pub swallowed-next : (d : Float) → tookNumber l (swallowTook d n end) ≡ swallowedFrom d (fieldsAt l at)
-    swallowed-next d = let (f, k, q) = is in rw k (swallowed-as l d n end ∙ ap (λ (x : N.Number). asSwallowed d x (fieldsAt l end)) q)
+    pub swallowed-next : (d : Float) → asSwallowed d n (fieldsAt l end) ≡ swallowedFrom d (fieldsAt l at)
+    swallowed-next d = let (f, k, q) = is in rw k (ap (λ (x : N.Number). asSwallowed d x (fieldsAt l end)) q)
 
   pub took-none : r ≡ next.Missing → refused reason.Missing ≡ numberFrom (fieldsAt l at)
   took-none e = sym (ap numberFrom (subst (Numbered l at) e h))

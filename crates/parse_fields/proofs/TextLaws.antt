@@ -1,7 +1,7 @@
 -- Names of a line are names of the text. Assumes nothing.
 use Prim.Native.Nat.{ℕ, _≤_}
 use native.Mathlib.Omega.{arith}
-use mathlib.Core.Path.{_≡_, refl, ap, _∙_, subst}
+use mathlib.Core.Path.{_≡_, refl}
 use mathlib.Core.List.{List}
 use lib.ListN.{take, length-take}
 use Rattle.leaf_fields.specs.Fields.{nameIn, Fits}
@@ -9,10 +9,7 @@ use Rattle.leaf_fields.specs.declared.Span.{Span}
 use Rattle.leaf_fields.specs.declared.Field.{Field}
 use Rattle.leaf_fields.specs.declared.Field.the-variants.{Taken, Nothing}
 use Rattle.leaf_fields.proofs.FieldLaws.{part-take}
-use Rattle.scope.specs.Values.{Read, good, PairFields}
-use Rattle.parse_fields.specs.Taking.{optIn, MayFit, pairIn, PairAs}
-use Rattle.parse_fields.specs.declared.PairRead.{PairRead}
-use Rattle.parse_fields.specs.declared.PairRead.the-variants.{Pair, NoPair}
+use Rattle.parse_fields.specs.Taking.{optIn, MayFit}
 
 -- a line is the text up to its end
 module _ (text : List ℕ) (end : ℕ) where
@@ -29,13 +26,3 @@ module _ (text : List ℕ) (end : ℕ) where
   pub opt-text : (f : Field) → MayFit (take end text) f → optIn (take end text) f ≡ optIn text f
   opt-text (Taken s) h = rw (name-text s h)
   opt-text Nothing h = refl
-
-  -- an id and two numbers, in the text's own names and as the code was told of them
-  pair-text : (o : Read PairFields) (r : PairRead) → PairAs (take end text) o r → PairAs text o r
-  pair-text o (Pair p) a =
-      let e : pairIn (take end text) p ≡ pairIn text p = rw (name-text (p .id) (a .1)) in
-      (a .0 ∙ ap good e, fits-text (p .id) (a .1))
-  pair-text o (NoPair why) a = a
-
-  pub pair-told : (o : Read PairFields) {r q : PairRead} → r ≡ q → PairAs (take end text) o r → PairAs text o q
-  pair-told o {r} {q} e a = subst (λ (x : PairRead). PairAs text o x) e (pair-text o r a)

@@ -7,20 +7,17 @@ use lib.Ieee.{Float}
 use Rattle.leaf_decimals.specs.declared.Number as N
 use Rattle.leaf_decimals.specs.declared.Number.the-variants as number
 use Rattle.leaf_decimals.specs.Numbers.{numberOf}
-use Rattle.leaf_fields.specs.Fields.{Name, fieldsAt, nameIn, Fits}
+use Rattle.leaf_fields.specs.Fields.{Name, fieldsAt}
 pub use Rattle.leaf_fields.specs.Fields.{optIn, MayFit}
 use Rattle.scope.specs.declared.Reason.{Reason}
 use Rattle.scope.specs.declared.Reason.the-variants.{Missing, Malformed, BeyondReach}
-use Rattle.scope.specs.Values.{Took, took, refused, Read, good, bad, PairFields}
+use Rattle.scope.specs.Values.{Took, took, refused}
 use Rattle.parse_fields.specs.declared.TookNumber.{TookNumber}
 use Rattle.parse_fields.specs.declared.TookNumber.the-variants.{Number, NoNumber}
 use Rattle.parse_fields.specs.declared.NextNumber.{NextNumber}
 use Rattle.parse_fields.specs.declared.NextNumber.the-variants as next
 use Rattle.parse_fields.specs.declared.TookFlag.{TookFlag}
 use Rattle.parse_fields.specs.declared.TookFlag.the-variants.{Flag, NoFlag}
-use Rattle.parse_fields.specs.declared.PairLine.{PairLine}
-use Rattle.parse_fields.specs.declared.PairRead.{PairRead}
-use Rattle.parse_fields.specs.declared.PairRead.the-variants.{Pair, NoPair}
 
 abbrev pub tookNumber : List ℕ → TookNumber → Took Float
 tookNumber l (Number x next) = took x (fieldsAt l next)
@@ -41,19 +38,6 @@ numberTook (number.Value x) next = Number x next
 numberTook number.Malformed next = NoNumber Malformed
 numberTook number.Beyond next = NoNumber BeyondReach
 
-abbrev pub swallowTook : Float → N.Number → ℕ → TookNumber
-swallowTook d (number.Value x) next = Number x next
-swallowTook d number.Malformed next = Number d next
-swallowTook d number.Beyond next = NoNumber BeyondReach
-
 abbrev pub reasonIn : TookNumber → Reason
 reasonIn (Number x next) = Missing
 reasonIn (NoNumber why) = why
-
--- ---- an id and two numbers
-abbrev pub pairIn : List ℕ → PairLine → PairFields
-pairIn l p = record { id = nameIn l (p .id); x = p .x; y = p .y }
-
-abbrev pub PairAs : List ℕ → Read PairFields → PairRead → Type 0
-PairAs l o (Pair p) = (o ≡ good (pairIn l p)) × Fits l (p .id)
-PairAs l o (NoPair why) = o ≡ bad why

@@ -1,14 +1,13 @@
-// Takes the next field of a line as a number or a flag, or an id and two numbers. A line is the caller's text up to the line's end, with the place where its next field
+// Takes the next field of a line as a number or a flag. A line is the caller's text up to the line's end, with the place where its next field
 // is looked for: so every place is a place of the text. Names are taken by leaf_fields::next_field.
 ghost use mathlib.Core.Path.{_≡_};
 ghost use Rattle.leaf_decimals.specs.Numbers.{numberOf};
 ghost use Rattle.leaf_fields.specs.Fields.{fieldsAt};
-ghost use Rattle.scope.specs.Values.{numberFrom, numberOr, swallowedFrom, flagFrom, pairOf};
-ghost use Rattle.parse_fields.specs.Taking.{tookNumber, tookFlag, numberTook, swallowTook, reasonIn, Numbered, PairAs};
+ghost use Rattle.scope.specs.Values.{numberFrom, numberOr, swallowedFrom, flagFrom};
+ghost use Rattle.parse_fields.specs.Taking.{tookNumber, tookFlag, numberTook, reasonIn, Numbered};
 use leaf_decimals::Number;
 use leaf_decimals::Plain;
 use leaf_fields::Field;
-use leaf_fields::Span;
 use scope::Reason;
 
 // A number and a place from which on the other fields stand, or why there is none.
@@ -20,18 +19,6 @@ pub enum TookNumber {
 pub enum TookFlag {
     Flag(bool, usize),
     NoFlag(Reason),
-}
-
-// An id and two numbers: what a line of CURVES or of COORDINATES says.
-pub struct PairLine {
-    pub id: Span,
-    pub x: f64,
-    pub y: f64,
-}
-
-pub enum PairRead {
-    Pair(PairLine),
-    NoPair(Reason),
 }
 
 pub fn as_number(n: Number, next: usize) -> TookNumber
@@ -122,20 +109,7 @@ pub fn take_number_or<'a>(l: &'a [u8], at: usize, other: &'a [u8]) -> TookNumber
     as_number(n, at)
 }
 
-// A malformed number is `other`; one beyond reach is refused even here.
-pub fn swallow(n: Number, other: f64, next: usize) -> TookNumber
-    ensures { λ r. ⌜ r ≡ swallowTook other n next ⌝ }
-{
-    let Number::Value(x) = n else {
-        let Number::Malformed = n else {
-            return TookNumber::NoNumber(Reason::BeyondReach);
-        };
-        return TookNumber::Number(other, next);
-    };
-    TookNumber::Number(x, next)
-}
-
-// A number that is `other` where it is missing or malformed.
+// A number that is `other` where it is missing or malformed; one beyond reach is refused even here.
 pub fn take_swallowed(l: &[u8], at: usize, other: f64) -> TookNumber
     ensures { λ r. ⌜ tookNumber (now (l .entry)) r ≡ swallowedFrom other (fieldsAt (now (l .entry)) at) ⌝ }
 {
@@ -143,7 +117,13 @@ pub fn take_swallowed(l: &[u8], at: usize, other: f64) -> TookNumber
     let NextNumber::Is(n, end) = f else {
         return TookNumber::Number(other, at);
     };
-    swallow(n, other, end)
+    let Number::Value(x) = n else {
+        let Number::Malformed = n else {
+            return TookNumber::NoNumber(Reason::BeyondReach);
+        };
+        return TookNumber::Number(other, end);
+    };
+    TookNumber::Number(x, end)
 }
 
 // Exactly true or false, false where it is missing.
@@ -171,24 +151,5 @@ pub fn reason_of(t: TookNumber) -> Reason
     match t {
         TookNumber::Number(_, _) => Reason::Missing,
         TookNumber::NoNumber(why) => why,
-    }
-}
-
-// Id, x, y.
-pub fn take_pair(l: &[u8], at: usize) -> PairRead
-    ensures { λ r. ⌜ PairAs (now (l .entry)) (pairOf (fieldsAt (now (l .entry)) at)) r ⌝ }
-{
-    let f = leaf_fields::next_field(l, at);
-    let Field::Taken(id) = f else {
-        return PairRead::NoPair(Reason::Missing);
-    };
-    let first = take_number(l, id.end);
-    let TookNumber::Number(x, at2) = first else {
-        return PairRead::NoPair(reason_of(first));
-    };
-    let second = take_number(l, at2);
-    match second {
-        TookNumber::Number(y, _) => PairRead::Pair(PairLine { id, x, y }),
-        TookNumber::NoNumber(why) => PairRead::NoPair(why),
     }
 }

@@ -1,4 +1,4 @@
-// Reads a line of JUNCTIONS or RESERVOIRS: the fields in order, and what they say. Nothing is looked up or stored here. What a line of TANKS says, which tanklines reads, is a NodeRead too.
+// Reads a line of JUNCTIONS or RESERVOIRS: the fields in order, and what they say. Nothing is looked up or stored here. What a line of TANKS says, which parse_tanks reads, is a NodeRead too.
 ghost use Rattle.leaf_fields.specs.Fields.{fieldsAt};
 ghost use Rattle.scope.specs.Nodes.{junctionOf, reservoirOf};
 ghost use Rattle.parse_nodes.specs.Lines.{JunctionAs, NodeAs};

@@ -1,2 +1,3 @@
--- What the proofs of this crate, of pumplines, valvelines and links use.
+-- What the proofs of this crate, of parse_pumps, parse_valves and store_links use.
 pub mod NameLaws
+pub mod Once

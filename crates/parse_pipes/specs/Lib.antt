@@ -1,2 +1,2 @@
--- What the contracts of this crate, of pumplines, valvelines and links cite.
+-- What the contracts of this crate, of parse_pumps, parse_valves and store_links cite.
 pub mod Lines

@@ -1,4 +1,4 @@
-// What a line of PIPES, PUMPS or VALVES says, the names with which each starts, and a line of PIPES read whole (pumplines and valvelines
+// What a line of PIPES, PUMPS or VALVES says, the names with which each starts, and a line of PIPES read whole (parse_pumps and parse_valves
 // read the other two). Nothing is looked up or stored here.
 ghost use mathlib.Core.Path.{_≡_};
 ghost use Rattle.leaf_fields.specs.Fields.{fieldsAt};

@@ -1,2 +1,3 @@
--- What the proofs of this crate, and of links, use.
+-- What the proofs of this crate, and of store_links, use.
 pub mod PumpLaws
+pub mod Once

@@ -4,74 +4,47 @@ use native.Mathlib.Omega.{arith}
 use mathlib.Core.Path.{_≡_, sym, ap, _∙_, subst}
 use mathlib.Core.Bool.{Bool, true, false}
 use mathlib.Core.List.{List, [], _∷_}
-use mathlib.Core.Option.{some}
 use lib.ListN.{length}
-use lib.Ieee.{Float}
 use Rattle.leaf_decimals.specs.Numbers.{numberOf}
 use Rattle.leaf_decimals.specs.declared.Number as N
-use Rattle.leaf_decimals.specs.declared.Number.the-variants as number
 use Rattle.leaf_fields.specs.Fields.{Name}
 use Rattle.leaf_letters.specs.Words.{same}
 use Rattle.scope.specs.declared.Reason.{Reason}
 use Rattle.scope.specs.Spelling.{wordSpeed, wordHead, wordPower}
 use Rattle.scope.specs.Records.{zeroF}
 use Rattle.scope.specs.Records as records
-use Rattle.scope.specs.Values.{Read, good, bad, took, refused, asSwallowed}
-use Rattle.scope.specs.Links.{oneF, noPump, withPair, pumpFrom}
-use Rattle.parse_fields.specs.Taking.{swallowTook, MayFit}
-use Rattle.parse_fields.specs.declared.TookNumber.the-variants.{Number, NoNumber}
+use Rattle.scope.specs.Values.{Read, good, bad, asSwallowed}
+use Rattle.scope.specs.Links.{oneF, noPump, withSpeed, withHead, withPower, withPair, pumpFrom}
+use Rattle.parse_fields.specs.Taking.{MayFit}
 use Rattle.parse_pipes.specs.Lines.{pumpIn}
 use Rattle.scope.specs.declared.Pump.{Pump}
 use Rattle.parse_pumps.specs.Lines.{PumpAs}
 use Rattle.parse_pumps.specs.declared.PumpRead.{PumpRead}
 use Rattle.parse_pumps.specs.declared.PumpRead.the-variants.{Pairs}
 
--- a number that is swallowed: what was taken, or why it was refused
-swallow-took : (d : Float) (n : N.Number) (next y : ℕ) (x : Float) (fs : List Name) → swallowTook d n next ≡ Number x y → asSwallowed d n fs ≡ took x fs
-swallow-took d (number.Value z) next y x fs e = let q : z ≡ x = cc in rw q
-swallow-took d number.Malformed next y x fs e = let q : d ≡ x = cc in rw q
-swallow-took d number.Beyond next y x fs e = absurd (let z : _≡_ {A = ℕ} 0 1 = cc in omega arith)
-
-swallow-refused : (d : Float) (n : N.Number) (next : ℕ) (why : Reason) (fs : List Name) → swallowTook d n next ≡ NoNumber why → asSwallowed d n fs ≡ refused why
-swallow-refused d (number.Value z) next why fs e = absurd (let z : _≡_ {A = ℕ} 0 1 = cc in omega arith)
-swallow-refused d number.Malformed next why fs e = absurd (let z : _≡_ {A = ℕ} 0 1 = cc in omega arith)
-swallow-refused d number.Beyond next why fs e = cc
-
 -- a test of a word that is part of the line
 pub told-word : (w : List ℕ) {a b : List ℕ} {r t : Bool} → a ≡ b → r ≡ same a w → r ≡ t → same b w ≡ t
 told-word w e h k = rw (← e) (sym h ∙ k)
 
--- what a word and its value make of a pump
+-- what a word and its value make of a pump; n is the value's number, and m what is known of it
 module _ (p : records.Pump) (w v : Name) where
-  pub speed-set : {n : N.Number} {y : ℕ} {x : Float} (next : ℕ) → same (w .letters) wordSpeed ≡ true → n ≡ numberOf (v .letters) → swallowTook oneF n next ≡ Number x y
-      → withPair p w v ≡ good (record { speed = x; head = p .head; power = p .power })
+  pub speed-pair : {n m : N.Number} → same (w .letters) wordSpeed ≡ true → n ≡ numberOf (v .letters) → n ≡ m → withPair p w v ≡ withSpeed p (asSwallowed oneF m [])
   unfolding withPair
-  speed-set {n} {y} {x} next is en e = rw (is, ← en, swallow-took oneF n next y x [] e)
-
-  pub speed-beyond : {n : N.Number} {why : Reason} (next : ℕ) → same (w .letters) wordSpeed ≡ true → n ≡ numberOf (v .letters) → swallowTook oneF n next ≡ NoNumber why
-      → withPair p w v ≡ bad why
-  unfolding withPair
-  speed-beyond {n} {why} next is en e = rw (is, ← en, swallow-refused oneF n next why [] e)
+  speed-pair is en em = rw (is, sym en ∙ em)
 
   module _ (no-speed : same (w .letters) wordSpeed ≡ false) where
-    pub head-set : same (w .letters) wordHead ≡ true → withPair p w v ≡ good (record { speed = p .speed; head = some v; power = p .power })
+    pub head-pair : same (w .letters) wordHead ≡ true → withPair p w v ≡ withHead p v
     unfolding withPair
-    head-set is = rw (no-speed, is)
+    head-pair is = rw (no-speed, is)
 
     module _ (no-head : same (w .letters) wordHead ≡ false) where
-      pub power-set : {n : N.Number} {y : ℕ} {x : Float} (next : ℕ) → same (w .letters) wordPower ≡ true → n ≡ numberOf (v .letters) → swallowTook zeroF n next ≡ Number x y
-          → withPair p w v ≡ good (record { speed = p .speed; head = p .head; power = x })
+      pub power-pair : {n m : N.Number} → same (w .letters) wordPower ≡ true → n ≡ numberOf (v .letters) → n ≡ m → withPair p w v ≡ withPower p (asSwallowed zeroF m [])
       unfolding withPair
-      power-set {n} {y} {x} next is en e = rw (no-speed, no-head, is, ← en, swallow-took zeroF n next y x [] e)
+      power-pair is en em = rw (no-speed, no-head, is, sym en ∙ em)
 
-      pub power-beyond : {n : N.Number} {why : Reason} (next : ℕ) → same (w .letters) wordPower ≡ true → n ≡ numberOf (v .letters) → swallowTook zeroF n next ≡ NoNumber why
-          → withPair p w v ≡ bad why
+      pub other-pair : same (w .letters) wordPower ≡ false → withPair p w v ≡ good p
       unfolding withPair
-      power-beyond {n} {why} next is en e = rw (no-speed, no-head, is, ← en, swallow-refused zeroF n next why [] e)
-
-      pub word-unknown : same (w .letters) wordPower ≡ false → withPair p w v ≡ good p
-      unfolding withPair
-      word-unknown none = rw (no-speed, no-head, none)
+      other-pair none = rw (no-speed, no-head, none)
 
 pub told-pump : (l : List ℕ) (o : Read records.Pump) {r r′ : PumpRead} → r ≡ r′ → PumpAs l o r → PumpAs l o r′
 told-pump l o e h = subst (λ (x : PumpRead). PumpAs l o x) e h

@@ -4,9 +4,9 @@ ghost use Rattle.scope.specs.Links.{noPump, withPair, pumpFrom};
 ghost use Rattle.parse_fields.specs.Taking.{MayFit};
 ghost use Rattle.parse_pipes.specs.Lines.{pumpIn};
 ghost use Rattle.parse_pumps.specs.Lines.{PumpAs};
+use leaf_decimals::Number;
 use leaf_fields::Field;
 use leaf_fields::Span;
-use parse_fields::TookNumber;
 use scope::Pump;
 use scope::Reason;
 
@@ -15,7 +15,7 @@ pub enum PumpRead {
     NoPump(Reason),
 }
 
-// What a pump's word and its value make of the pump. A malformed number is swallowed; one beyond reach is refused.
+// What a pump's word and its value make of the pump. A malformed number is swallowed; one beyond reach is refused even here.
 fn with_pair(l: &[u8], p: Pump, word: Span, value: Span) -> PumpRead
     ensures { λ r. ⌜ (MayFit (now (l .entry)) (p .head) → Fits (now (l .entry)) value
         → PumpAs (now (l .entry)) (withPair (pumpIn (now (l .entry)) p) (nameIn (now (l .entry)) word) (nameIn (now (l .entry)) value)) r) ⌝ }
@@ -24,11 +24,17 @@ fn with_pair(l: &[u8], p: Pump, word: Span, value: Span) -> PumpRead
     let head = p.head;
     if leaf_letters::equal(name, b"SPEED") {
         let n = leaf_decimals::read_number(leaf_fields::letters_of(l, value));
-        let t = parse_fields::swallow(n, 1.0, value.end);
-        let TookNumber::Number(speed, _) = t else {
-            return PumpRead::NoPump(parse_fields::reason_of(t));
-        };
         let power = p.power;
+        let Number::Value(speed) = n else {
+            let Number::Malformed = n else {
+                return PumpRead::NoPump(Reason::BeyondReach);
+            };
+            return PumpRead::Pairs(Pump {
+                speed: 1.0,
+                head,
+                power,
+            });
+        };
         return PumpRead::Pairs(Pump { speed, head, power });
     }
     if leaf_letters::equal(name, b"HEAD") {
@@ -43,11 +49,17 @@ fn with_pair(l: &[u8], p: Pump, word: Span, value: Span) -> PumpRead
     }
     if leaf_letters::equal(name, b"POWER") {
         let n = leaf_decimals::read_number(leaf_fields::letters_of(l, value));
-        let t = parse_fields::swallow(n, 0.0, value.end);
-        let TookNumber::Number(power, _) = t else {
-            return PumpRead::NoPump(parse_fields::reason_of(t));
-        };
         let speed = p.speed;
+        let Number::Value(power) = n else {
+            let Number::Malformed = n else {
+                return PumpRead::NoPump(Reason::BeyondReach);
+            };
+            return PumpRead::Pairs(Pump {
+                speed,
+                head,
+                power: 0.0,
+            });
+        };
         return PumpRead::Pairs(Pump { speed, head, power });
     }
     PumpRead::Pairs(p)

@@ -1,2 +1,3 @@
--- What the proofs of this crate, and of patterns, use.
+-- What the proofs of this crate, and of store_patterns, use.
 pub mod PatternLaws
+pub mod Once

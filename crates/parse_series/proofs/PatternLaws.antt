@@ -149,6 +149,7 @@ module _ {fs gs hs : List Name} {r : ℕ} {first : List Float} {n : ℕ} (g : Go
   pub bad-going : (l : List ℕ) (f : Name) (e : ℕ) (why : Reason) → gs ≡ f ∷ fieldsAt l e → numberTook (numberOf (f .letters)) e ≡ NoNumber why → multipliersOf fs ≡ bad why
   bad-going l f e why q h = g .whole ∙ rw (q, no-number f (fieldsAt l e) (numberOf (f .letters)) why e refl h)
 
-pub done-going : {fs gs : List Name} {r : ℕ} {first : List Float} {n : ℕ} (l : List ℕ) (rest : ℕ) → Going fs gs (fieldsAt l rest) r first n → gs ≡ [] → CountedAs l first (multipliersOf fs) (Count n rest)
+pub done-going : {fs gs : List Name} {r : ℕ} {first : List Float} {n : ℕ} (l : List ℕ) (rest : ℕ) → Going fs gs (fieldsAt l rest) r first n → gs ≡ []
+    → CountedAs l first (multipliersOf fs) (Count n rest)
 unfolding multipliersOf
 done-going l rest g e = (g .done, g .whole ∙ rw (e, append-nil), record { long = g .long; kept = rw (g .room) (g .kept); left = rw (g .room) (g .left ∙ rw (e, append-nil)) })

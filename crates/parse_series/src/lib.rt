@@ -1,4 +1,4 @@
-// Parses a line of PATTERNS or DEMANDS. A line of CURVES is an id and two numbers: parse_fields::take_pair.
+// Parses a line of PATTERNS or DEMANDS. A line of CURVES is an id and two numbers: parse_pairs::read_pair.
 ghost use Rattle.leaf_fields.specs.Fields.{fieldsAt};
 ghost use Rattle.scope.specs.Series.{multipliersOf, patternOf, demandOf};
 ghost use Rattle.parse_series.specs.Lines.{CountedAs, PatternAs, DemandAs};

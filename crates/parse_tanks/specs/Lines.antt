@@ -1,4 +1,4 @@
--- A tank's curve, and the code's answer as that; what its whole line says is with nodelines. Assumes nothing.
+-- A tank's curve, and the code's answer as that; what its whole line says is with parse_nodes. Assumes nothing.
 use Prim.Native.Nat.{ℕ}
 use mathlib.Core.Path.{_≡_}
 use mathlib.Core.List.{List}

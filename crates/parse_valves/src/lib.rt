@@ -112,7 +112,8 @@ fn read_after_type(
     kind: ValveType,
 ) -> LinkRead
     ensures { λ r. ⌜ (NamesFit (now (l .entry)) names
-        → LinkAs (now (l .entry)) (valveAfterType (nameIn (now (l .entry)) (names .id)) (nameIn (now (l .entry)) (names .start)) (nameIn (now (l .entry)) (names .end)) diameter kind (fieldsAt (now (l .entry)) at)) r) ⌝ }
+        → LinkAs (now (l .entry)) (valveAfterType (nameIn (now (l .entry)) (names .id)) (nameIn (now (l .entry)) (names .start))
+        (nameIn (now (l .entry)) (names .end)) diameter kind (fieldsAt (now (l .entry)) at)) r) ⌝ }
 {
     let first = take_setting(l, at, kind);
     let TookSetting::Setting(setting, own, at2) = first else {

@@ -1,3 +1,4 @@
+-- `parse_fields::take_flag` meets its contract. Assumes nothing.
 use denote.Ref.{now}
 use mathlib.Core.Path.{_≡_, sym, _∙_}
 use mathlib.Core.List.{_∷_}
@@ -6,58 +7,43 @@ use borrow.Author.Needs.{needs}
 use Rattle.parse_fields.proofs.take_flag.Statement.{statement}
 use Rattle.parse_fields.proofs.take_flag.Tie as tie
 
-field : (c : tie.After-known-told) → fieldsAt (now (c .before .before .before .before .before .args .l)) (c .before .before .before .before .before .args .at) ≡ nameIn (now (c .before .before .before .before .before .args .l)) (c .before .f .given .0 .0) ∷ fieldsAt (now (c .before .before .before .before .before .args .l)) (c .before .f .given .0 .0 .end)
+field : (c : tie.After-known-told) →
+    let a = c .before .before .before .before .before .args in
+    let l = now (a .l) in
+    fieldsAt l (a .at) ≡ nameIn l (c .before .f .given .0 .0) ∷ fieldsAt l (c .before .f .given .0 .0 .end)
 field c = c .before .before .before .next-field .ensures .taken _ (c .before .f .given .1) .0
-
-next-field-requires : tie.Need-next-field-requires
-next-field-requires c κs = search needs
-
-enum-known-f : tie.Need-enum-known-f
-enum-known-f c = search needs
-
-enum-told : tie.Need-enum-told
-enum-told c = search needs
 
 returns : tie.Need-returns
 returns c = rw (c .before .before .next-field .ensures .nothing (c .enum-told .given .1))
 
-letters-of-requires : tie.Need-letters-of-requires
-letters-of-requires c κs = search needs
-
-slice-aggregate-equal : tie.Need-slice-aggregate-equal
-slice-aggregate-equal c = search needs
-
-equal-requires : tie.Need-equal-requires
-equal-requires c κs = search needs
-
 returns-2 : tie.Need-returns-2
 returns-2 c = rw (field (c .before .before .before .before), ← c .before .before .before .letters-of .ensures, sym (c .before .equal .ensures) ∙ c .if1 .taken)
 
-slice-aggregate-equal-2 : tie.Need-slice-aggregate-equal-2
-slice-aggregate-equal-2 c = search needs
-
-equal-requires-2 : tie.Need-equal-requires-2
-equal-requires-2 c κs = search needs
-
 returns-3 : tie.Need-returns-3
-returns-3 c = rw (field (c .before .before .before .before .before .before .before), ← c .before .before .before .before .before .before .letters-of .ensures, sym (c .before .before .before .before .equal .ensures) ∙ c .before .before .before .if1 .left, sym (c .before .equal2 .ensures) ∙ c .if2 .taken)
+returns-3 c =
+    let c3 = c .before .before .before in
+    let c6 = c3 .before .before .before in
+    rw (field (c6 .before), ← c6 .letters-of .ensures, sym (c3 .before .equal .ensures) ∙ c3 .if1 .left, sym (c .before .equal2 .ensures) ∙ c .if2 .taken)
 
 returns-4 : tie.Need-returns-4
-returns-4 c = rw (field (c .before .before .before .before .before .before .before), ← c .before .before .before .before .before .before .letters-of .ensures, sym (c .before .before .before .before .equal .ensures) ∙ c .before .before .before .if1 .left, sym (c .before .equal2 .ensures) ∙ c .if2 .left)
+returns-4 c =
+    let c3 = c .before .before .before in
+    let c6 = c3 .before .before .before in
+    rw (field (c6 .before), ← c6 .letters-of .ensures, sym (c3 .before .equal .ensures) ∙ c3 .if1 .left, sym (c .before .equal2 .ensures) ∙ c .if2 .left)
 
 pub take-flag-spec : {M : Type 1} → statement M
 take-flag-spec =
     tie.close
     (tie.spec
-    next-field-requires
-    enum-known-f
-    enum-told
+    (search needs)
+    (search needs)
+    (search needs)
     returns
-    letters-of-requires
-    slice-aggregate-equal
-    equal-requires
+    (search needs)
+    (search needs)
+    (search needs)
     returns-2
-    slice-aggregate-equal-2
-    equal-requires-2
+    (search needs)
+    (search needs)
     returns-3
     returns-4)

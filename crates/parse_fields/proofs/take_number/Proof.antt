@@ -7,22 +7,10 @@ use borrow.Author.Needs.{needs}
 use Rattle.parse_fields.proofs.take_number.Statement.{statement}
 use Rattle.parse_fields.proofs.take_number.Tie as tie
 
-next-number-requires : tie.Need-next-number-requires
-next-number-requires c κs = search needs
-
-enum-known-f : tie.Need-enum-known-f
-enum-known-f c = search needs
-
-enum-told : tie.Need-enum-told
-enum-told c = search needs
-
 returns : tie.Need-returns
 returns c =
     let a = c .before .before .before .before .args in
     took-none (now (a .l)) (a .at) _ (c .before .before .next-number .ensures) (c .enum-told .given .1)
-
-as-number-requires : tie.Need-as-number-requires
-as-number-requires c κs = search needs
 
 returns-2 : tie.Need-returns-2
 returns-2 c =
@@ -33,4 +21,4 @@ returns-2 c =
 pub take-number-spec : {M : Type 1} → statement M
 take-number-spec =
     tie.close
-    (tie.spec next-number-requires enum-known-f enum-told returns as-number-requires returns-2)
+    (tie.spec (search needs) (search needs) (search needs) returns (search needs) returns-2)

@@ -7,31 +7,14 @@ use borrow.Author.Needs.{needs}
 use Rattle.parse_fields.proofs.take_number_or.Statement.{statement}
 use Rattle.parse_fields.proofs.take_number_or.Tie as tie
 
-field-start-requires : tie.Need-field-start-requires
-field-start-requires c κs = search needs
-
-field-or-requires : tie.Need-field-or-requires
-field-or-requires c κs = search needs
-
-whole-number-requires : tie.Need-whole-number-requires
-whole-number-requires c κs = search needs
-
-add-end : tie.Need-add-end
-add-end c = search needs
-
-as-number-requires : tie.Need-as-number-requires
-as-number-requires c κs = search needs
-
 returns : tie.Need-returns
 returns c =
     let w = c .before .before in
     let f = w .before .before in
     let a = f .before .before .before .args in
     ap (tookNumber (now (a .l))) (c .as-number .ensures)
-    ∙ took-part (now (a .l)) (a .at) (f .field-start .result) (f .field-start .ensures) (now (a .other)) _ (w .before .field-or .ensures) (w .whole-number .result) (w .whole-number .ensures) (c .before .if1 .taken)
-
-as-number-requires-2 : tie.Need-as-number-requires-2
-as-number-requires-2 c κs = search needs
+    ∙ took-part (now (a .l)) (a .at) (f .field-start .result) (f .field-start .ensures) (now (a .other)) _ (w .before .field-or .ensures)
+    (w .whole-number .result) (w .whole-number .ensures) (c .before .if1 .taken)
 
 returns-2 : tie.Need-returns-2
 returns-2 c =
@@ -39,9 +22,10 @@ returns-2 c =
     let f = w .before .before in
     let a = f .before .before .before .args in
     ap (tookNumber (now (a .l))) (c .as-number2 .ensures)
-    ∙ took-other (now (a .l)) (a .at) (f .field-start .result) (f .field-start .ensures) (now (a .other)) _ (w .before .field-or .ensures) (w .whole-number .result) (w .whole-number .ensures) (c .before .if1 .left)
+    ∙ took-other (now (a .l)) (a .at) (f .field-start .result) (f .field-start .ensures) (now (a .other)) _ (w .before .field-or .ensures)
+    (w .whole-number .result) (w .whole-number .ensures) (c .before .if1 .left)
 
 pub take-number-or-spec : {M : Type 1} → statement M
 take-number-or-spec =
     tie.close
-    (tie.spec field-start-requires field-or-requires whole-number-requires add-end as-number-requires returns as-number-requires-2 returns-2)
+    (tie.spec (search needs) (search needs) (search needs) (search needs) (search needs) returns (search needs) returns-2)

@@ -1,122 +1,116 @@
+-- `parse_pumps::with_pair` meets its contract. Assumes nothing.
 use denote.Ref.{now}
-use mathlib.Core.Path.{sym, ap, _∙_}
-use Rattle.leaf_fields.specs.Fields.{nameIn}
+use mathlib.Core.Path.{_≡_, refl, sym, ap, _∙_}
+use mathlib.Core.Bool.{false}
+use mathlib.Core.List.{[]}
 use lib.Ieee as Ieee
 use Rattle.leaf_decimals.specs.Numbers.{numberOf}
+use Rattle.leaf_decimals.specs.declared.Number.{Number}
+use Rattle.leaf_fields.specs.Fields.{nameIn}
+use Rattle.leaf_letters.specs.Words.{same}
 use Rattle.scope.specs.Spelling.{wordSpeed, wordHead, wordPower}
-use Rattle.scope.specs.Values.{bad}
-use Rattle.parse_fields.specs.Taking.{reasonIn}
+use Rattle.scope.specs.Records.{zeroF}
+use Rattle.scope.specs.Values.{asSwallowed}
+use Rattle.scope.specs.Links.{oneF, withSpeed, withPower, withPair}
+use Rattle.parse_fields.proofs.TakeLaws.{beyond}
 use Rattle.parse_pipes.specs.Lines.{pumpIn}
-use Rattle.parse_pumps.proofs.PumpLaws.{told-word, speed-set, speed-beyond, head-set, power-set, power-beyond, word-unknown}
+use Rattle.parse_pumps.proofs.PumpLaws.{told-word, speed-pair, head-pair, power-pair, other-pair}
 use borrow.Author.Needs.{needs}
 use Rattle.parse_pumps.proofs.with_pair.Statement.{statement}
 use Rattle.parse_pumps.proofs.with_pair.Tie as tie
 
-letters-of-requires : tie.Need-letters-of-requires
-letters-of-requires c κs = search needs
+no-speed : (c : tie.Else1) → let a = c .before .before .before .before .before .args in same (nameIn (now (a .l)) (a .word) .letters) wordSpeed ≡ false
+no-speed c = told-word wordSpeed (c .before .before .before .letters-of .ensures) (c .before .equal .ensures) (c .if1 .left)
 
-slice-aggregate-equal : tie.Need-slice-aggregate-equal
-slice-aggregate-equal c = search needs
+no-head : (c : tie.Else2) → let a = c .before .before .before .before .before .before .before .before .args in same (nameIn (now (a .l)) (a .word) .letters) wordHead ≡ false
+no-head c = told-word wordHead (c .before .before .before .before .before .before .letters-of .ensures) (c .before .equal2 .ensures) (c .if2 .left)
 
-equal-requires : tie.Need-equal-requires
-equal-requires c κs = search needs
+-- what the number after SPEED or POWER makes
+speed : (c : tie.After-read-number) {m : Number} → c .read-number .result ≡ m → let a = c .before .before .before .before .before .before .before .args in let l = now (a .l) in
+    withPair (pumpIn l (a .p)) (nameIn l (a .word)) (nameIn l (a .value)) ≡ withSpeed (pumpIn l (a .p)) (asSwallowed oneF m [])
+speed c e =
+    let a = c .before .before .before .before .before .before .before .args in
+    let l = now (a .l) in
+    let is = told-word wordSpeed (c .before .before .before .before .before .letters-of .ensures) (c .before .before .before .equal .ensures) (c .before .before .if1 .taken) in
+    speed-pair (pumpIn l (a .p)) (nameIn l (a .word)) (nameIn l (a .value)) is (c .read-number .ensures .0 ∙ ap numberOf (c .before .letters-of2 .ensures)) e
 
-letters-of-requires-2 : tie.Need-letters-of-requires-2
-letters-of-requires-2 c κs = search needs
-
-read-number-requires : tie.Need-read-number-requires
-read-number-requires c κs = search needs
-
-swallow-requires : tie.Need-swallow-requires
-swallow-requires c κs = search needs
-
-enum-known-t : tie.Need-enum-known-t
-enum-known-t c = search needs
-
-enum-told : tie.Need-enum-told
-enum-told c = search needs
-
-reason-of-requires : tie.Need-reason-of-requires
-reason-of-requires c κs = search needs
+power : (c : tie.After-read-number2) {m : Number} →
+    let c13 = c .before .before .before .before .before .before .before .before .before .before .before .before .before in
+    c .read-number2 .result ≡ m → let a = c13 .args in let l = now (a .l) in
+    withPair (pumpIn l (a .p)) (nameIn l (a .word)) (nameIn l (a .value)) ≡ withPower (pumpIn l (a .p)) (asSwallowed zeroF m [])
+power c e =
+    let a = c .before .before .before .before .before .before .before .before .before .before .before .before .before .args in
+    let l = now (a .l) in
+    let else2 = c .before .before .before .before .before in
+    let is = told-word wordPower (c .before .before .before .before .before .before .before .before .before .before .before .letters-of .ensures)
+    (c .before .before .before .equal3 .ensures) (c .before .before .if3 .taken) in
+    power-pair (pumpIn l (a .p)) (nameIn l (a .word)) (nameIn l (a .value)) (no-speed (else2 .before .before .before)) (no-head else2) is
+    (c .read-number2 .ensures .0 ∙ ap numberOf (c .before .letters-of3 .ensures)) e
 
 returns : tie.Need-returns
-unfolding Ieee.ofBits
-returns c = λ own fit. speed-beyond (pumpIn (now (c .before .before .before .before .before .before .before .before .before .before .before .args .l)) (c .before .before .before .before .before .before .before .before .before .before .before .args .p)) (nameIn (now (c .before .before .before .before .before .before .before .before .before .before .before .args .l)) (c .before .before .before .before .before .before .before .before .before .before .before .args .word)) (nameIn (now (c .before .before .before .before .before .before .before .before .before .before .before .args .l)) (c .before .before .before .before .before .before .before .before .before .before .before .args .value)) (c .before .before .before .before .before .before .before .before .before .before .before .args .value .end) (told-word wordSpeed (c .before .before .before .before .before .before .before .before .before .letters-of .ensures) (c .before .before .before .before .before .before .before .equal .ensures) (c .before .before .before .before .before .before .if1 .taken)) (c .before .before .before .before .read-number .ensures .0 ∙ ap numberOf (c .before .before .before .before .before .letters-of2 .ensures)) (sym (c .before .before .before .swallow .ensures) ∙ c .before .enum-told .given .1) ∙ ap bad (sym (c .reason-of .ensures ∙ ap reasonIn (c .before .enum-told .given .1)))
+returns c = λ own fit.
+    let d = c .before .before in
+    let a = d .before .before .before .before .before .before .before .args in
+    speed d refl ∙ ap (withSpeed (pumpIn (now (a .l)) (a .p))) (sym (beyond oneF (d .read-number .result) [] (c .before .match .keys2) (c .match2 .keys2)))
 
 returns-2 : tie.Need-returns-2
 unfolding Ieee.ofBits
-returns-2 c = λ own fit. (speed-set (pumpIn (now (c .before .before .before .before .before .before .before .before .before .before .before .args .l)) (c .before .before .before .before .before .before .before .before .before .before .before .args .p)) (nameIn (now (c .before .before .before .before .before .before .before .before .before .before .before .args .l)) (c .before .before .before .before .before .before .before .before .before .before .before .args .word)) (nameIn (now (c .before .before .before .before .before .before .before .before .before .before .before .args .l)) (c .before .before .before .before .before .before .before .before .before .before .before .args .value)) (c .before .before .before .before .before .before .before .before .before .before .before .args .value .end) (told-word wordSpeed (c .before .before .before .before .before .before .before .before .before .letters-of .ensures) (c .before .before .before .before .before .before .before .equal .ensures) (c .before .before .before .before .before .before .if1 .taken)) (c .before .before .before .before .read-number .ensures .0 ∙ ap numberOf (c .before .before .before .before .before .letters-of2 .ensures)) (sym (c .before .before .before .swallow .ensures) ∙ c .before .t .given .1), own)
-
-slice-aggregate-equal-2 : tie.Need-slice-aggregate-equal-2
-slice-aggregate-equal-2 c = search needs
-
-equal-requires-2 : tie.Need-equal-requires-2
-equal-requires-2 c κs = search needs
+returns-2 c = λ own fit. (speed (c .before .before .before) (c .enum-told .given .1), own)
 
 returns-3 : tie.Need-returns-3
-returns-3 c = λ own fit. (head-set (pumpIn (now (c .before .before .before .before .before .before .before .before .args .l)) (c .before .before .before .before .before .before .before .before .args .p)) (nameIn (now (c .before .before .before .before .before .before .before .before .args .l)) (c .before .before .before .before .before .before .before .before .args .word)) (nameIn (now (c .before .before .before .before .before .before .before .before .args .l)) (c .before .before .before .before .before .before .before .before .args .value)) (told-word wordSpeed (c .before .before .before .before .before .before .letters-of .ensures) (c .before .before .before .before .equal .ensures) (c .before .before .before .if1 .left)) (told-word wordHead (c .before .before .before .before .before .before .letters-of .ensures) (c .before .equal2 .ensures) (c .if2 .taken)), fit)
-
-slice-aggregate-equal-3 : tie.Need-slice-aggregate-equal-3
-slice-aggregate-equal-3 c = search needs
-
-equal-requires-3 : tie.Need-equal-requires-3
-equal-requires-3 c κs = search needs
-
-letters-of-requires-3 : tie.Need-letters-of-requires-3
-letters-of-requires-3 c κs = search needs
-
-read-number-requires-2 : tie.Need-read-number-requires-2
-read-number-requires-2 c κs = search needs
-
-swallow-requires-2 : tie.Need-swallow-requires-2
-swallow-requires-2 c κs = search needs
-
-enum-known-t-2 : tie.Need-enum-known-t-2
-enum-known-t-2 c = search needs
-
-enum-told-2 : tie.Need-enum-told-2
-enum-told-2 c = search needs
-
-reason-of-requires-2 : tie.Need-reason-of-requires-2
-reason-of-requires-2 c κs = search needs
+returns-3 c = λ own fit. (speed (c .before .before .before) (c .before .n .given .1), own)
 
 returns-4 : tie.Need-returns-4
-unfolding Ieee.ofBits
-returns-4 c = λ own fit. power-beyond (pumpIn (now (c .before .before .before .before .before .before .before .before .before .before .before .before .before .before .before .before .before .args .l)) (c .before .before .before .before .before .before .before .before .before .before .before .before .before .before .before .before .before .args .p)) (nameIn (now (c .before .before .before .before .before .before .before .before .before .before .before .before .before .before .before .before .before .args .l)) (c .before .before .before .before .before .before .before .before .before .before .before .before .before .before .before .before .before .args .word)) (nameIn (now (c .before .before .before .before .before .before .before .before .before .before .before .before .before .before .before .before .before .args .l)) (c .before .before .before .before .before .before .before .before .before .before .before .before .before .before .before .before .before .args .value)) (told-word wordSpeed (c .before .before .before .before .before .before .before .before .before .before .before .before .before .before .before .letters-of .ensures) (c .before .before .before .before .before .before .before .before .before .before .before .before .before .equal .ensures) (c .before .before .before .before .before .before .before .before .before .before .before .before .if1 .left)) (told-word wordHead (c .before .before .before .before .before .before .before .before .before .before .before .before .before .before .before .letters-of .ensures) (c .before .before .before .before .before .before .before .before .before .before .equal2 .ensures) (c .before .before .before .before .before .before .before .before .before .if2 .left)) (c .before .before .before .before .before .before .before .before .before .before .before .before .before .before .before .before .before .args .value .end) (told-word wordPower (c .before .before .before .before .before .before .before .before .before .before .before .before .before .before .before .letters-of .ensures) (c .before .before .before .before .before .before .before .equal3 .ensures) (c .before .before .before .before .before .before .if3 .taken)) (c .before .before .before .before .read-number2 .ensures .0 ∙ ap numberOf (c .before .before .before .before .before .letters-of3 .ensures)) (sym (c .before .before .before .swallow2 .ensures) ∙ c .before .enum-told2 .given .1) ∙ ap bad (sym (c .reason-of2 .ensures ∙ ap reasonIn (c .before .enum-told2 .given .1)))
+returns-4 c = λ own fit.
+    let a = c .before .before .before .before .before .before .before .before .args in
+    let l = now (a .l) in
+    let is = told-word wordHead (c .before .before .before .before .before .before .letters-of .ensures) (c .before .equal2 .ensures) (c .if2 .taken) in
+    (head-pair (pumpIn l (a .p)) (nameIn l (a .word)) (nameIn l (a .value)) (no-speed (c .before .before .before)) is, fit)
 
 returns-5 : tie.Need-returns-5
-unfolding Ieee.ofBits
-returns-5 c = λ own fit. (power-set (pumpIn (now (c .before .before .before .before .before .before .before .before .before .before .before .before .before .before .before .before .before .args .l)) (c .before .before .before .before .before .before .before .before .before .before .before .before .before .before .before .before .before .args .p)) (nameIn (now (c .before .before .before .before .before .before .before .before .before .before .before .before .before .before .before .before .before .args .l)) (c .before .before .before .before .before .before .before .before .before .before .before .before .before .before .before .before .before .args .word)) (nameIn (now (c .before .before .before .before .before .before .before .before .before .before .before .before .before .before .before .before .before .args .l)) (c .before .before .before .before .before .before .before .before .before .before .before .before .before .before .before .before .before .args .value)) (told-word wordSpeed (c .before .before .before .before .before .before .before .before .before .before .before .before .before .before .before .letters-of .ensures) (c .before .before .before .before .before .before .before .before .before .before .before .before .before .equal .ensures) (c .before .before .before .before .before .before .before .before .before .before .before .before .if1 .left)) (told-word wordHead (c .before .before .before .before .before .before .before .before .before .before .before .before .before .before .before .letters-of .ensures) (c .before .before .before .before .before .before .before .before .before .before .equal2 .ensures) (c .before .before .before .before .before .before .before .before .before .if2 .left)) (c .before .before .before .before .before .before .before .before .before .before .before .before .before .before .before .before .before .args .value .end) (told-word wordPower (c .before .before .before .before .before .before .before .before .before .before .before .before .before .before .before .letters-of .ensures) (c .before .before .before .before .before .before .before .equal3 .ensures) (c .before .before .before .before .before .before .if3 .taken)) (c .before .before .before .before .read-number2 .ensures .0 ∙ ap numberOf (c .before .before .before .before .before .letters-of3 .ensures)) (sym (c .before .before .before .swallow2 .ensures) ∙ c .before .t2 .given .1), own)
+returns-5 c = λ own fit.
+    let d = c .before .before in
+    let a = d .before .before .before .before .before .before .before .before .before .before .before .before .before .args in
+    power d refl ∙ ap (withPower (pumpIn (now (a .l)) (a .p))) (sym (beyond zeroF (d .read-number2 .result) [] (c .before .match3 .keys2) (c .match4 .keys2)))
 
 returns-6 : tie.Need-returns-6
-returns-6 c = λ own fit. (word-unknown (pumpIn (now (c .before .before .before .before .before .before .before .before .before .before .before .args .l)) (c .before .before .before .before .before .before .before .before .before .before .before .args .p)) (nameIn (now (c .before .before .before .before .before .before .before .before .before .before .before .args .l)) (c .before .before .before .before .before .before .before .before .before .before .before .args .word)) (nameIn (now (c .before .before .before .before .before .before .before .before .before .before .before .args .l)) (c .before .before .before .before .before .before .before .before .before .before .before .args .value)) (told-word wordSpeed (c .before .before .before .before .before .before .before .before .before .letters-of .ensures) (c .before .before .before .before .before .before .before .equal .ensures) (c .before .before .before .before .before .before .if1 .left)) (told-word wordHead (c .before .before .before .before .before .before .before .before .before .letters-of .ensures) (c .before .before .before .before .equal2 .ensures) (c .before .before .before .if2 .left)) (told-word wordPower (c .before .before .before .before .before .before .before .before .before .letters-of .ensures) (c .before .equal3 .ensures) (c .if3 .left)), own)
+unfolding Ieee.ofBits
+returns-6 c = λ own fit. (power (c .before .before .before) (c .enum-told2 .given .1), own)
+
+returns-7 : tie.Need-returns-7
+returns-7 c = λ own fit. (power (c .before .before .before) (c .before .n2 .given .1), own)
+
+returns-8 : tie.Need-returns-8
+returns-8 c = λ own fit.
+    let a = c .before .before .before .before .before .before .before .before .before .before .before .args in
+    let l = now (a .l) in
+    let is = told-word wordPower (c .before .before .before .before .before .before .before .before .before .letters-of .ensures) (c .before .equal3 .ensures) (c .if3 .left) in
+    (other-pair (pumpIn l (a .p)) (nameIn l (a .word)) (nameIn l (a .value)) (no-speed (c .before .before .before .before .before .before)) (no-head (c .before .before .before)) is, own)
 
 pub with-pair-spec : {M : Type 1} → statement M
 with-pair-spec =
     tie.close
     (tie.spec
-    letters-of-requires
-    slice-aggregate-equal
-    equal-requires
-    letters-of-requires-2
-    read-number-requires
-    swallow-requires
-    enum-known-t
-    enum-told
-    reason-of-requires
+    (search needs)
+    (search needs)
+    (search needs)
+    (search needs)
+    (search needs)
+    (search needs)
+    (search needs)
     returns
     returns-2
-    slice-aggregate-equal-2
-    equal-requires-2
     returns-3
-    slice-aggregate-equal-3
-    equal-requires-3
-    letters-of-requires-3
-    read-number-requires-2
-    swallow-requires-2
-    enum-known-t-2
-    enum-told-2
-    reason-of-requires-2
+    (search needs)
+    (search needs)
     returns-4
+    (search needs)
+    (search needs)
+    (search needs)
+    (search needs)
+    (search needs)
+    (search needs)
     returns-5
-    returns-6)
+    returns-6
+    returns-7
+    returns-8)

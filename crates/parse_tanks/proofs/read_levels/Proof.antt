@@ -1,156 +1,143 @@
+-- `parse_tanks::read_levels` meets its contract. Assumes nothing.
 use denote.Ref.{now}
-use mathlib.Core.Path.{_≡_, sym, ap, _∙_}
+use mathlib.Core.Path.{_≡_}
 use Rattle.leaf_fields.specs.Fields.{fieldsAt}
-use Rattle.scope.specs.Values.{took, bad, numberFrom, numberOr}
+use Rattle.scope.specs.Values.{took, numberFrom, numberOr}
 use Rattle.scope.specs.Spelling.{zeroText}
-use Rattle.parse_fields.specs.Taking.{tookNumber, reasonIn}
 use Rattle.scope.specs.Nodes.{levelsOf}
+use Rattle.parse_fields.proofs.TakeLaws.{told-number, told-why}
 use borrow.Author.Needs.{needs}
 use Rattle.parse_tanks.proofs.read_levels.Statement.{statement}
 use Rattle.parse_tanks.proofs.read_levels.Tie as tie
 
-s1 : (c : tie.After-known-told) → numberFrom (fieldsAt (now (c .before .before .before .before .before .args .l)) (c .before .before .before .before .before .args .at)) ≡ took (c .before .first .given .0 .0) (fieldsAt (now (c .before .before .before .before .before .args .l)) (c .before .first .given .0 .1 .0))
-s1 c = sym (c .before .before .before .take-number .ensures) ∙ ap (tookNumber (now (c .before .before .before .before .before .args .l))) (c .before .first .given .1)
+s1 : (c : tie.After-known-told) →
+    let a = c .before .before .before .before .before .args in
+    let l = now (a .l) in
+    numberFrom (fieldsAt l (a .at)) ≡ took (c .before .first .given .0 .0) (fieldsAt l (c .before .first .given .0 .1 .0))
+s1 c = told-number (now (c .before .before .before .before .before .args .l)) (c .before .before .before .take-number .ensures) (c .before .first .given .1)
 
-s2 : (c : tie.After-known-told2) → numberFrom (fieldsAt (now (c .before .before .before .before .before .before .before .before .before .args .l)) (c .before .before .before .before .before .first .given .0 .1 .0)) ≡ took (c .before .second .given .0 .0) (fieldsAt (now (c .before .before .before .before .before .before .before .before .before .args .l)) (c .before .second .given .0 .1 .0))
-s2 c = sym (c .before .before .before .take-number2 .ensures) ∙ ap (tookNumber (now (c .before .before .before .before .before .before .before .before .before .args .l))) (c .before .second .given .1)
+s2 : (c : tie.After-known-told2) →
+    let c5 = c .before .before .before .before .before in
+    let a = c5 .before .before .before .before .args in
+    let l = now (a .l) in
+    numberFrom (fieldsAt l (c5 .first .given .0 .1 .0)) ≡ took (c .before .second .given .0 .0) (fieldsAt l (c .before .second .given .0 .1 .0))
+s2 c = told-number (now (c .before .before .before .before .before .before .before .before .before .args .l)) (c .before .before .before .take-number2 .ensures) (c .before .second .given .1)
 
-s3 : (c : tie.After-known-told3) → numberFrom (fieldsAt (now (c .before .before .before .before .before .before .before .before .before .before .before .before .before .args .l)) (c .before .before .before .before .before .second .given .0 .1 .0)) ≡ took (c .before .third .given .0 .0) (fieldsAt (now (c .before .before .before .before .before .before .before .before .before .before .before .before .before .args .l)) (c .before .third .given .0 .1 .0))
-s3 c = sym (c .before .before .before .take-number3 .ensures) ∙ ap (tookNumber (now (c .before .before .before .before .before .before .before .before .before .before .before .before .before .args .l))) (c .before .third .given .1)
+s3 : (c : tie.After-known-told3) →
+    let c5 = c .before .before .before .before .before in
+    let a = c5 .before .before .before .before .before .before .before .before .args in
+    let l = now (a .l) in
+    numberFrom (fieldsAt l (c5 .second .given .0 .1 .0)) ≡ took (c .before .third .given .0 .0) (fieldsAt l (c .before .third .given .0 .1 .0))
+s3 c =
+    let c3 = c .before .before .before in
+    let a = c3 .before .before .before .before .before .before .before .before .before .before .args in
+    told-number (now (a .l)) (c3 .take-number3 .ensures) (c .before .third .given .1)
 
-s4 : (c : tie.After-known-told4) → numberFrom (fieldsAt (now (c .before .before .before .before .before .before .before .before .before .before .before .before .before .before .before .before .before .args .l)) (c .before .before .before .before .before .third .given .0 .1 .0)) ≡ took (c .before .fourth .given .0 .0) (fieldsAt (now (c .before .before .before .before .before .before .before .before .before .before .before .before .before .before .before .before .before .args .l)) (c .before .fourth .given .0 .1 .0))
-s4 c = sym (c .before .before .before .take-number4 .ensures) ∙ ap (tookNumber (now (c .before .before .before .before .before .before .before .before .before .before .before .before .before .before .before .before .before .args .l))) (c .before .fourth .given .1)
+s4 : (c : tie.After-known-told4) →
+    let c5 = c .before .before .before .before .before in
+    let a = c5 .before .before .before .before .before .before .before .before .before .before .before .before .args in
+    let l = now (a .l) in
+    numberFrom (fieldsAt l (c5 .third .given .0 .1 .0)) ≡ took (c .before .fourth .given .0 .0) (fieldsAt l (c .before .fourth .given .0 .1 .0))
+s4 c =
+    let c3 = c .before .before .before in
+    let a = c3 .before .before .before .before .before .before .before .before .before .before .before .before .before .before .args in
+    told-number (now (a .l)) (c3 .take-number4 .ensures) (c .before .fourth .given .1)
 
-s5 : (c : tie.After-known-told5) → numberOr zeroText (fieldsAt (now (c .before .before .before .before .before .before .before .before .before .before .before .before .before .before .before .before .before .before .before .before .before .before .args .l)) (c .before .before .before .before .before .before .fourth .given .0 .1 .0)) ≡ took (c .before .fifth .given .0 .0) (fieldsAt (now (c .before .before .before .before .before .before .before .before .before .before .before .before .before .before .before .before .before .before .before .before .before .before .args .l)) (c .before .fifth .given .0 .1 .0))
-s5 c = sym (c .before .before .before .take-number-or .ensures) ∙ ap (tookNumber (now (c .before .before .before .before .before .before .before .before .before .before .before .before .before .before .before .before .before .before .before .before .before .before .args .l))) (c .before .fifth .given .1)
-
-take-number-requires : tie.Need-take-number-requires
-take-number-requires c κs = search needs
-
-enum-known-first : tie.Need-enum-known-first
-enum-known-first c = search needs
-
-enum-told : tie.Need-enum-told
-enum-told c = search needs
-
-reason-of-requires : tie.Need-reason-of-requires
-reason-of-requires c κs = search needs
+s5 : (c : tie.After-known-told5) →
+    let c6 = c .before .before .before .before .before .before in
+    let a = c6 .before .before .before .before .before .before .before .before .before .before .before .before .before .before .before .before .args in
+    let l = now (a .l) in
+    numberOr zeroText (fieldsAt l (c6 .fourth .given .0 .1 .0)) ≡ took (c .before .fifth .given .0 .0) (fieldsAt l (c .before .fifth .given .0 .1 .0))
+s5 c =
+    let c3 = c .before .before .before in
+    let a = c3 .before .before .before .before .before .before .before .before .before .before .before .before .before .before .before .before .before .before .before .args in
+    told-number (now (a .l)) (c3 .take-number-or .ensures) (c .before .fifth .given .1)
 
 returns : tie.Need-returns
 unfolding levelsOf
-returns c = λ fit. rw (sym (c .before .before .before .take-number .ensures) ∙ ap (tookNumber (now (c .before .before .before .before .before .args .l))) (c .before .enum-told .given .1)) (ap bad (sym (c .reason-of .ensures ∙ ap reasonIn (c .before .enum-told .given .1))))
-
-take-number-requires-2 : tie.Need-take-number-requires-2
-take-number-requires-2 c κs = search needs
-
-enum-known-second : tie.Need-enum-known-second
-enum-known-second c = search needs
-
-enum-told-2 : tie.Need-enum-told-2
-enum-told-2 c = search needs
-
-reason-of-requires-2 : tie.Need-reason-of-requires-2
-reason-of-requires-2 c κs = search needs
+returns c =
+    let c3 = c .before .before .before in
+    let a = c3 .before .before .args in
+    λ fit. rw (told-number (now (a .l)) (c3 .take-number .ensures) (c .before .enum-told .given .1)) (told-why (c .reason-of .ensures) (c .before .enum-told .given .1))
 
 returns-2 : tie.Need-returns-2
 unfolding levelsOf
-returns-2 c = λ fit. rw (s1 (c .before .before .before .before), sym (c .before .before .before .take-number2 .ensures) ∙ ap (tookNumber (now (c .before .before .before .before .before .before .before .before .before .args .l))) (c .before .enum-told2 .given .1)) (ap bad (sym (c .reason-of2 .ensures ∙ ap reasonIn (c .before .enum-told2 .given .1))))
-
-take-number-requires-3 : tie.Need-take-number-requires-3
-take-number-requires-3 c κs = search needs
-
-enum-known-third : tie.Need-enum-known-third
-enum-known-third c = search needs
-
-enum-told-3 : tie.Need-enum-told-3
-enum-told-3 c = search needs
-
-reason-of-requires-3 : tie.Need-reason-of-requires-3
-reason-of-requires-3 c κs = search needs
+returns-2 c =
+    let c3 = c .before .before .before in
+    let a = c3 .before .before .before .before .before .before .args in
+    λ fit. rw (s1 (c3 .before), told-number (now (a .l)) (c3 .take-number2 .ensures) (c .before .enum-told2 .given .1)) (told-why (c .reason-of2 .ensures) (c .before .enum-told2 .given .1))
 
 returns-3 : tie.Need-returns-3
 unfolding levelsOf
-returns-3 c = λ fit. rw (s1 (c .before .before .before .before .before .before .before .before), s2 (c .before .before .before .before), sym (c .before .before .before .take-number3 .ensures) ∙ ap (tookNumber (now (c .before .before .before .before .before .before .before .before .before .before .before .before .before .args .l))) (c .before .enum-told3 .given .1)) (ap bad (sym (c .reason-of3 .ensures ∙ ap reasonIn (c .before .enum-told3 .given .1))))
-
-take-number-requires-4 : tie.Need-take-number-requires-4
-take-number-requires-4 c κs = search needs
-
-enum-known-fourth : tie.Need-enum-known-fourth
-enum-known-fourth c = search needs
-
-enum-told-4 : tie.Need-enum-told-4
-enum-told-4 c = search needs
-
-reason-of-requires-4 : tie.Need-reason-of-requires-4
-reason-of-requires-4 c κs = search needs
+returns-3 c =
+    let c3 = c .before .before .before in
+    let c8 = c3 .before .before .before .before .before in
+    let a = c8 .before .before .before .before .before .args in
+    λ fit. rw (s1 c8, s2 (c3 .before), told-number (now (a .l)) (c3 .take-number3 .ensures) (c .before .enum-told3 .given .1)) (told-why (c .reason-of3 .ensures) (c .before .enum-told3 .given .1))
 
 returns-4 : tie.Need-returns-4
 unfolding levelsOf
-returns-4 c = λ fit. rw (s1 (c .before .before .before .before .before .before .before .before .before .before .before .before), s2 (c .before .before .before .before .before .before .before .before), s3 (c .before .before .before .before), sym (c .before .before .before .take-number4 .ensures) ∙ ap (tookNumber (now (c .before .before .before .before .before .before .before .before .before .before .before .before .before .before .before .before .before .args .l))) (c .before .enum-told4 .given .1)) (ap bad (sym (c .reason-of4 .ensures ∙ ap reasonIn (c .before .enum-told4 .given .1))))
-
-slice-aggregate-take-number-or : tie.Need-slice-aggregate-take-number-or
-slice-aggregate-take-number-or c = search needs
-
-take-number-or-requires : tie.Need-take-number-or-requires
-take-number-or-requires c κs = search needs
-
-enum-known-fifth : tie.Need-enum-known-fifth
-enum-known-fifth c = search needs
-
-enum-told-5 : tie.Need-enum-told-5
-enum-told-5 c = search needs
-
-reason-of-requires-5 : tie.Need-reason-of-requires-5
-reason-of-requires-5 c κs = search needs
+returns-4 c =
+    let c3 = c .before .before .before in
+    let c8 = c3 .before .before .before .before .before in
+    let c12 = c8 .before .before .before .before in
+    let a = c12 .before .before .before .before .before .args in
+    λ fit. rw (s1 c12, s2 c8, s3 (c3 .before), told-number (now (a .l)) (c3 .take-number4 .ensures) (c .before .enum-told4 .given .1))
+    (told-why (c .reason-of4 .ensures) (c .before .enum-told4 .given .1))
 
 returns-5 : tie.Need-returns-5
 unfolding levelsOf
-returns-5 c = λ fit. rw (s1 (c .before .before .before .before .before .before .before .before .before .before .before .before .before .before .before .before .before), s2 (c .before .before .before .before .before .before .before .before .before .before .before .before .before), s3 (c .before .before .before .before .before .before .before .before .before), s4 (c .before .before .before .before .before), sym (c .before .before .before .take-number-or .ensures) ∙ ap (tookNumber (now (c .before .before .before .before .before .before .before .before .before .before .before .before .before .before .before .before .before .before .before .before .before .before .args .l))) (c .before .enum-told5 .given .1)) (ap bad (sym (c .reason-of5 .ensures ∙ ap reasonIn (c .before .enum-told5 .given .1))))
-
-take-curve-requires : tie.Need-take-curve-requires
-take-curve-requires c κs = search needs
-
-past-field-requires : tie.Need-past-field-requires
-past-field-requires c κs = search needs
-
-take-overflow-requires : tie.Need-take-overflow-requires
-take-overflow-requires c κs = search needs
+returns-5 c =
+    let c3 = c .before .before .before in
+    let c5 = c3 .before .before in
+    let c9 = c5 .before .before .before .before in
+    let c13 = c9 .before .before .before .before in
+    let c17 = c13 .before .before .before .before in
+    let a = c17 .before .before .before .before .before .args in
+    λ fit. rw (s1 c17, s2 c13, s3 c9, s4 c5, told-number (now (a .l)) (c3 .take-number-or .ensures) (c .before .enum-told5 .given .1))
+    (told-why (c .reason-of5 .ensures) (c .before .enum-told5 .given .1))
 
 returns-6 : tie.Need-returns-6
 unfolding levelsOf
-returns-6 c = λ fit. (rw (s1 (c .before .before .before .before .before .before .before .before .before .before .before .before .before .before .before .before .before .before .before .before), s2 (c .before .before .before .before .before .before .before .before .before .before .before .before .before .before .before .before), s3 (c .before .before .before .before .before .before .before .before .before .before .before .before), s4 (c .before .before .before .before .before .before .before .before), s5 (c .before .before .before), c .before .before .take-curve .ensures .0, ← c .before .past-field .ensures .left, ← c .take-overflow .ensures), fit, c .before .before .take-curve .ensures .1)
+returns-6 c =
+    let c2 = c .before .before in
+    let c8 = c2 .before .before .before .before .before .before in
+    let c12 = c8 .before .before .before .before in
+    let c16 = c12 .before .before .before .before in
+    let c20 = c16 .before .before .before .before in
+    λ fit. (rw (s1 c20, s2 c16, s3 c12, s4 c8, s5 (c2 .before), c2 .take-curve .ensures .0, ← c .before .past-field .ensures .left, ← c .take-overflow .ensures), fit, c2 .take-curve .ensures .1)
 
 pub read-levels-spec : {M : Type 1} → statement M
 read-levels-spec =
     tie.close
     (tie.spec
-    take-number-requires
-    enum-known-first
-    enum-told
-    reason-of-requires
+    (search needs)
+    (search needs)
+    (search needs)
+    (search needs)
     returns
-    take-number-requires-2
-    enum-known-second
-    enum-told-2
-    reason-of-requires-2
+    (search needs)
+    (search needs)
+    (search needs)
+    (search needs)
     returns-2
-    take-number-requires-3
-    enum-known-third
-    enum-told-3
-    reason-of-requires-3
+    (search needs)
+    (search needs)
+    (search needs)
+    (search needs)
     returns-3
-    take-number-requires-4
-    enum-known-fourth
-    enum-told-4
-    reason-of-requires-4
+    (search needs)
+    (search needs)
+    (search needs)
+    (search needs)
     returns-4
-    slice-aggregate-take-number-or
-    take-number-or-requires
-    enum-known-fifth
-    enum-told-5
-    reason-of-requires-5
+    (search needs)
+    (search needs)
+    (search needs)
+    (search needs)
+    (search needs)
     returns-5
-    take-curve-requires
-    past-field-requires
-    take-overflow-requires
+    (search needs)
+    (search needs)
+    (search needs)
     returns-6)

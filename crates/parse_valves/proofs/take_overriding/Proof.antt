@@ -1,15 +1,7 @@
+-- `parse_valves::take_overriding` meets its contract. Assumes nothing.
 use borrow.Author.Needs.{needs}
 use Rattle.parse_valves.proofs.take_overriding.Statement.{statement}
 use Rattle.parse_valves.proofs.take_overriding.Tie as tie
-
-next-field-requires : tie.Need-next-field-requires
-next-field-requires c κs = search needs
-
-enum-known-f : tie.Need-enum-known-f
-enum-known-f c = search needs
-
-enum-told : tie.Need-enum-told
-enum-told c = search needs
 
 returns : tie.Need-returns
 returns c =
@@ -21,4 +13,4 @@ returns-2 c = record { is = rw (c .before .before .next-field .ensures .nothing 
 
 pub take-overriding-spec : {M : Type 1} → statement M
 take-overriding-spec =
-    tie.close (tie.spec next-field-requires enum-known-f enum-told returns returns-2)
+    tie.close (tie.spec (search needs) (search needs) (search needs) returns returns-2)

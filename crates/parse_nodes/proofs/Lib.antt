@@ -1,0 +1,2 @@
+-- What is proved of the parsers' promises.
+pub mod Once

@@ -1,0 +1,3 @@
+-- What is proved of the parsers' promises, and what the section readers use.
+pub mod TextLaws
+pub mod Once
