@@ -88,10 +88,13 @@ action-parts otherwise m (k ∷ id ∷ fs) = go (lookup (linkIds m) (id .letters
 pub line-by : (m : Network) (d : Draft) (w : Name) (fs : List Name) → lineOf m d (w ∷ fs) ≡ lineBy (ruleWord (w .letters)) m d fs
 unfolding lineOf ruleWord
 line-by m d w fs =
-    go (same (w .letters) wordRule) (same (w .letters) wordIf) (same (w .letters) wordOr) (same (w .letters) wordThen) (same (w .letters) wordAnd) (same (w .letters) wordElse) (same (w .letters) wordPriority)
+    go (same (w .letters) wordRule) (same (w .letters) wordIf) (same (w .letters) wordOr) (same (w .letters) wordThen) (same (w .letters) wordAnd)
+    (same (w .letters) wordElse) (same (w .letters) wordPriority)
   where
     go : (a b c e f g h : Bool)
-        → cond a (ruled fs d) (cond b (conditioned operator.And fs d) (cond c (conditioned operator.Or fs d) (cond e (acted true (d .otherwise) false m fs d) (cond f (anded (d .acting) m fs d) (cond g (acted (d .acting) true true m fs d) (cond h (ranked fs d) (bad UnknownWord)))))))
+        → cond a (ruled fs d) (cond b (conditioned operator.And fs d)
+        (cond c (conditioned operator.Or fs d) (cond e (acted true (d .otherwise) false m fs d)
+        (cond f (anded (d .acting) m fs d) (cond g (acted (d .acting) true true m fs d) (cond h (ranked fs d) (bad UnknownWord)))))))
         ≡ lineBy (cond a word.Rule (cond b word.If (cond c word.Or (cond e word.Then (cond f word.And (cond g word.Else (cond h word.Priority word.Unknown))))))) m d fs
     go true b c e f g h = refl
     go false true c e f g h = refl

@@ -3,8 +3,10 @@
 ghost use mathlib.Core.Path.{_≡_};
 ghost use Rattle.leaf_fields.specs.Fields.{fieldsAt};
 ghost use Rattle.scope.specs.Records.{LinkKind};
-ghost use Rattle.scope.specs.Rules.{systemTarget, nodeTarget, tankTarget, linkTarget, isLinkWord, systemFrom, namedFrom, aimFrom, isTime, valueOf, conditionOf, ofKind, isPipe, isPump, isValve, kindFits};
-ghost use Rattle.rule_clauses.specs.Clauses.{attributeRead, attributeOf, targetRead, TargetFits, aimIn, valueRead, conditionRead, ConditionFits, conditionOn, headFrom, headRead, HeadFits, kindRead, deedFrom, ruleWord, MayFit};
+ghost use Rattle.scope.specs.Rules.{systemTarget, nodeTarget, tankTarget, linkTarget, isLinkWord, systemFrom, namedFrom, aimFrom, isTime, valueOf, conditionOf};
+ghost use Rattle.scope.specs.Rules.{ofKind, isPipe, isPump, isValve, kindFits};
+ghost use Rattle.rule_clauses.specs.Clauses.{attributeRead, attributeOf, targetRead, TargetFits, aimIn, valueRead, conditionRead, ConditionFits};
+ghost use Rattle.rule_clauses.specs.Clauses.{conditionOn, headFrom, headRead, HeadFits, kindRead, deedFrom, ruleWord, MayFit};
 use leaf_fields::Field;
 use leaf_fields::Span;
 use rule_values::ComparisonRead;

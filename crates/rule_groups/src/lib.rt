@@ -113,7 +113,8 @@ pub enum Judged {
 // The group of that sketch: no condition, no action, no id, its id used, no room, in that order. Some of its clauses may stand in the words already.
 pub fn judge_group(text: &[u8], q: Sketch, words: &[u64], s: Counts) -> Judged
     requires { ⌜ ((m : Network) × Words (now text) m (now words) × (s .rules ≡ length (m .rules)) × (s .clauses ≤ roomClauses)) ⌝ }
-    ensures { λ r. ⌜ ((m : Network) (cs : List Clause) (d : Draft) → Words (now (text .entry)) (withClauses cs m) (now (words .entry)) → s .rules ≡ length (m .rules) → s .clauses ≡ length (m .clauses) → Sketched (now (text .entry)) d q
+    ensures { λ r. ⌜ ((m : Network) (cs : List Clause) (d : Draft) → Words (now (text .entry)) (withClauses cs m) (now (words .entry))
+        → s .rules ≡ length (m .rules) → s .clauses ≡ length (m .clauses) → Sketched (now (text .entry)) d q
         → JudgedAs (now (text .entry)) d m (judged d m) r) ⌝ }
 {
     if q.conditions {
@@ -122,7 +123,7 @@ pub fn judge_group(text: &[u8], q: Sketch, words: &[u64], s: Counts) -> Judged
             let Field::Taken(id) = named else {
                 return Judged::Refused(Reason::NoId);
             };
-            let found = table_rows::find_named(
+            let found = table_find::find_named(
                 text,
                 words,
                 Kind::Rules,

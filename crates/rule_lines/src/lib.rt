@@ -60,12 +60,13 @@ fn action_at(
 ) -> ActionRead
     requires { ⌜ ((m : Network) × Words (now text) m (now words) × (links ≡ length (m .links))) ⌝ }
     ensures { λ r. ⌜ ((m : Network) → Words (now (text .entry)) m (now (words .entry)) → links ≡ length (m .links)
-        → actionRead (now (l .entry)) r ≡ actionAt otherwise m (headIn (now (l .entry)) head) (fieldsAt (now (l .entry)) (head .id .end)) (lookup (linkIds m) (part (head .id .at) (head .id .end) (now (l .entry))))) ⌝ }
+        → actionRead (now (l .entry)) r ≡ actionAt otherwise m (headIn (now (l .entry)) head) (fieldsAt (now (l .entry)) (head .id .end))
+        (lookup (linkIds m) (part (head .id .at) (head .id .end) (now (l .entry))))) ⌝ }
     ensures { λ r. ⌜ (Fits (now (l .entry)) (head .id) → ActionFits (now (l .entry)) r) ⌝ }
 {
     let id = head.id;
     let kind = head.kind;
-    let found = table_rows::find_named(
+    let found = table_find::find_named(
         text,
         words,
         Kind::Links,
@@ -75,9 +76,9 @@ fn action_at(
     let Found::At(i) = found else {
         return ActionRead::Refused(Reason::NotFound);
     };
-    let pipe = table_rows::is_pipe(words, i);
-    let pump = table_rows::is_pump(words, i);
-    let valve = table_rows::is_valve(words, i);
+    let pipe = table_find::is_pipe(words, i);
+    let pump = table_find::is_pump(words, i);
+    let valve = table_find::is_valve(words, i);
     let fits = rule_clauses::kind_fits(leaf_fields::letters_of(l, kind), pipe, pump, valve);
     match fits {
         KindRead::Fits => action_value(rule_clauses::read_deed(l, id.end), i, id, otherwise),

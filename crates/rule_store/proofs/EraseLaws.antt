@@ -82,7 +82,8 @@ module _ {text : List ℕ} {m : Network} {s : Counts} {w0 : List ℕ} {f0 : List
   erased-numbers e = erase-records (m .clauses) cs (clause-numbers-lie (more .words .known)) (more .numbers .exact) (rw (mul-one, mul-one) e) ∙ sym (h .numbers .exact)
 
 -- the clauses that a group has put, `count` at most
-module _ {text : List ℕ} {m : Network} {s : Counts} {w0 : List ℕ} {f0 : List Float} (h : Holds text m s w0 f0) (cs : List Clause) {w : List ℕ} {f : List Float} (more : HoldsMore text m (fitting m cs) w f)
+module _ {text : List ℕ} {m : Network} {s : Counts} {w0 : List ℕ} {f0 : List Float} (h : Holds text m s w0 f0) (cs : List Clause) {w : List ℕ} {f : List Float}
+    (more : HoldsMore text m (fitting m cs) w f)
     (base count end : ℕ) (eb : base ≡ length (m .clauses)) (ec : length cs ≡ count) (ee : end ≡ base + min (roomClauses - base) count) where
   ends : end ≡ base + length (fitting m cs)
   ends = ee ∙ ap (λ (k : ℕ). base + k) (rw (eb, ← ec) (sym (length-take (roomClauses - length (m .clauses)) cs)))

@@ -40,12 +40,14 @@ use Rattle.rule_store.proofs.GoingLaws.{Going, going-start, line-fits, 
 use Rattle.rule_store.specs.Group.{ruleIn, PutClause, PutFitting, Put, HoldsMore, fitting, Taken, ClausesPut}
 
 -- ---- one line more is stored
-module _ (text : List ℕ) (m : Network) (d : Draft) (w w2 : List ℕ) (f f2 : List Float) (h : HoldsMore text m (fitting m (d .clauses)) w f) (n : ℕ) (en : n ≡ length (m .clauses) + length (d .clauses)) where
+module _ (text : List ℕ) (m : Network) (d : Draft) (w w2 : List ℕ) (f f2 : List Float) (h : HoldsMore text m (fitting m (d .clauses)) w f) (n : ℕ)
+    (en : n ≡ length (m .clauses) + length (d .clauses)) where
   -- where there is room, all of the clauses are there
   add-one-more : (c : Clause) → n < roomClauses → PutClause n c w f w2 f2 → HoldsMore text m (fitting m (d .clauses ++ (c ∷ []))) w2 f2
   add-one-more c r e =
       let all : fitting m (d .clauses) ≡ d .clauses = take-all (roomClauses - length (m .clauses)) (d .clauses) (omega arith) in
-      let more : fitting m (d .clauses ++ (c ∷ [])) ≡ d .clauses ++ (c ∷ []) = take-all (roomClauses - length (m .clauses)) (d .clauses ++ (c ∷ [])) (omega (arith, length-append (d .clauses) (c ∷ []))) in
+      let more : fitting m (d .clauses ++ (c ∷ [])) ≡ d .clauses ++ (c ∷ []) =
+      take-all (roomClauses - length (m .clauses)) (d .clauses ++ (c ∷ [])) (omega (arith, length-append (d .clauses) (c ∷ []))) in
       let count : n ≡ length (m .clauses ++ d .clauses) = en ∙ sym (length-append (m .clauses) (d .clauses)) in
       subst (λ (cs : List Clause). HoldsMore text m cs w2 f2) (sym more)
       (subst (λ (cs : List Clause). Holds text (withClauses cs m) (countsOf (withClauses cs m)) w2 f2) (append-assoc (m .clauses) (d .clauses) (c ∷ []))
@@ -64,8 +66,10 @@ module _ (text : List ℕ) (m : Network) (d : Draft) (w w2 : List ℕ) (f f2 : L
   put-more : (r : LineRead) → Put text n r w f w2 f2 → (x : Said) → saidRead text r ≡ good x → HoldsMore text m (fitting m (withSaid x d .clauses)) w2 f2
   put-more (line.Named s) p x e = let z : saidId (nameIn text s) ≡ x = cc in subst (λ (y : Said). HoldsMore text m (fitting m (withSaid y d .clauses)) w2 f2) z (unput p)
   put-more (line.Ranked j) p x e = let z : saidRank j ≡ x = cc in subst (λ (y : Said). HoldsMore text m (fitting m (withSaid y d .clauses)) w2 f2) z (unput p)
-  put-more (line.Condition c) p x e = let z : saidCondition (conditionIn text c) ≡ x = cc in subst (λ (y : Said). HoldsMore text m (fitting m (withSaid y d .clauses)) w2 f2) z (put-one (condition (conditionIn text c)) p)
-  put-more (line.Action a) p x e = let z : saidAction (a .acting) (a .otherwise) (actionIn text (a .action)) ≡ x = cc in subst (λ (y : Said). HoldsMore text m (fitting m (withSaid y d .clauses)) w2 f2) z (put-one (action (actionIn text (a .action))) p)
+  put-more (line.Condition c) p x e = let z : saidCondition (conditionIn text c) ≡ x = cc in
+      subst (λ (y : Said). HoldsMore text m (fitting m (withSaid y d .clauses)) w2 f2) z (put-one (condition (conditionIn text c)) p)
+  put-more (line.Action a) p x e = let z : saidAction (a .acting) (a .otherwise) (actionIn text (a .action)) ≡ x = cc in
+      subst (λ (y : Said). HoldsMore text m (fitting m (withSaid y d .clauses)) w2 f2) z (put-one (action (actionIn text (a .action))) p)
   put-more (line.Refused why) p x e = absurd (let z : _≡_ {A = ℕ} 0 1 = cc in omega arith)
 
   -- a line that is refused puts nothing
@@ -99,7 +103,8 @@ pub record Taking (m : Network) (text : List ℕ) (at first p : ℕ) (q : Sketch
   pub going : Going m text at first p q
   pub held : HoldsMore text m (fitting m (going .d .clauses)) w f
 
-pub taking-start : {text : List ℕ} {m : Network} {s : Counts} {w : List ℕ} {f : List Float} (at first : ℕ) (q : Sketch) → Holds text m s w f → Sketched text noDraft q → Taking m text at first first q w f
+pub taking-start : {text : List ℕ} {m : Network} {s : Counts} {w : List ℕ} {f : List Float} (at first : ℕ) (q : Sketch) → Holds text m s w f
+    → Sketched text noDraft q → Taking m text at first first q w f
 taking-start {text} {m} {s} {w} {f} at first q h sk =
     let none-yet : m .clauses ++ fitting m [] ≡ m .clauses = ap (λ (cs : List Clause). m .clauses ++ cs) (take-nil (roomClauses - length (m .clauses))) ∙ append-nil (m .clauses) in
     record {
@@ -111,14 +116,17 @@ pub taking-words : {m : Network} {text : List ℕ} {at first p : ℕ} {q : Sketc
     → (x : Network) × Words text x w × (links ≡ length (x .links))
 taking-words {m} t e = (withClauses (m .clauses ++ fitting m (t .going .d .clauses)) m, t .held .words, e)
 
-pub taking-end : {m : Network} {text : List ℕ} {at first p : ℕ} {q : Sketch} {w : List ℕ} {f : List Float} → Taking m text at first p q w f → groupFields text at p ≡ [] → (w0 : List ℕ) (f0 : List Float)
+pub taking-end : {m : Network} {text : List ℕ} {at first p : ℕ} {q : Sketch} {w : List ℕ} {f : List Float} → Taking m text at first p q w f
+    → groupFields text at p ≡ [] → (w0 : List ℕ) (f0 : List Float)
     → Taken text m (linesOf m noDraft (groupFields text at first)) (sketch.Good q) w0 f0 w f
 unfolding linesOf
 taking-end t e w0 f0 = (t .going .d, t .going .same ∙ rw e, t .going .sketched, t .held)
 
 -- one line more: what was read of it, r, what was put then, and what was seen, v
-module _ {m : Network} {text : List ℕ} {at first p : ℕ} {q : Sketch} {w : List ℕ} {f : List Float} (t : Taking m text at first p q w f) (s : Span) (h : NextHere text at p s) (l : List ℕ) (el : l ≡ take (s .end) text)
-    {links : ℕ} (ek : links ≡ length (m .links)) (r : LineRead) (er : (x : Network) → Words text x w → links ≡ length (x .links) → saidRead l r ≡ saidOf x (q .acting) (q .otherwise) (fieldsAt l (s .at))) (fr : LineFits l r)
+module _ {m : Network} {text : List ℕ} {at first p : ℕ} {q : Sketch} {w : List ℕ} {f : List Float} (t : Taking m text at first p q w f) (s : Span)
+    (h : NextHere text at p s) (l : List ℕ) (el : l ≡ take (s .end) text)
+    {links : ℕ} (ek : links ≡ length (m .links)) (r : LineRead)
+    (er : (x : Network) → Words text x w → links ≡ length (x .links) → saidRead l r ≡ saidOf x (q .acting) (q .otherwise) (fieldsAt l (s .at))) (fr : LineFits l r)
     {base : ℕ} (eb : base ≡ length (m .clauses)) (w2 : List ℕ) (f2 : List Float) (put : Put text (base + q .clauses) r w f w2 f2)
     (v : SketchRead) (see : (text : List ℕ) (d : Draft) → Sketched text d q → LineFits text r → SketchAs text (onRead (saidRead text r) (λ x. good (withSaid x d))) v) where
   said : saidRead l r ≡ saidOf m (q .acting) (q .otherwise) (fieldsAt l (s .at))
@@ -175,7 +183,8 @@ fine-of : (text : List ℕ) (d : Draft) (m : Network) (o : Read Network) (r : Ju
 fine-of text d m o r id h e = subst (λ (x : Judged). JudgedAs text d m o x) e h
 
 module _ {text : List ℕ} {m : Network} {d : Draft} {q : Sketch} {s : Counts} {w w1 : List ℕ} {f f1 : List Float} (k : ClausesPut text m d q s w f w1 f1) (r : Judged)
-    (by-judge : (x : Network) (cs : List Clause) (e : Draft) → Words text (withClauses cs x) w1 → s .rules ≡ length (x .rules) → s .clauses ≡ length (x .clauses) → Sketched text e q → JudgedAs text e x (judged e x) r) where
+    (by-judge : (x : Network) (cs : List Clause) (e : Draft) → Words text (withClauses cs x) w1 → s .rules ≡ length (x .rules)
+    → s .clauses ≡ length (x .clauses) → Sketched text e q → JudgedAs text e x (judged e x) r) where
   judged-as : JudgedAs text d m (judged d m) r
   judged-as = by-judge m (m .clauses ++ fitting m (d .clauses)) d (k .more .words) (count-rules (k .was)) (count-clauses (k .was)) (k .sketched)
 
@@ -229,6 +238,7 @@ module _ {text : List ℕ} (at first : ℕ) {m : Network} {s : Counts} {w : List
     pub close-written : ClausesPut text m (read-good .0) q s w f w1 f1
     close-written = record { was = h; sketched = read-good .2; more = read-good .3 }
 
-    pub close-stored : (r : Kept) (w2 : List ℕ) (f2 : List Float) → ((d : Draft) → ClausesPut text m d q s w f w1 f1 → After text (judged d m) r w f w2 f2) → After text (groupStep (groupFields text at first) m) r w f w2 f2
+    pub close-stored : (r : Kept) (w2 : List ℕ) (f2 : List Float) → ((d : Draft) → ClausesPut text m d q s w f w1 f1 → After text (judged d m) r w f w2 f2)
+        → After text (groupStep (groupFields text at first) m) r w f w2 f2
     unfolding groupStep
     close-stored r w2 f2 stored = rw (read-good .1) (stored (read-good .0) close-written)

@@ -189,7 +189,7 @@ fn take_lines(
             return SketchRead::Good(q);
         };
         let read = rule_lines::read_line(
-            leaf_letters::cut(text, 0, line.end),
+            read_headers::own_bytes(text, line),
             line.at,
             q.acting,
             q.otherwise,

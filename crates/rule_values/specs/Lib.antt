@@ -1,2 +1,2 @@
--- What the contracts of this crate, and of clauses, cite.
+-- What the contracts of this crate, and of rule_clauses, cite.
 pub mod Values

@@ -3,24 +3,6 @@ use borrow.Author.Needs.{needs}
 use Rattle.rule_clauses.proofs.attribute.Statement.{statement}
 use Rattle.rule_clauses.proofs.attribute.Tie as tie
 
-enum-told : tie.Need-enum-told
-enum-told c = search needs
-
-node-target-requires : tie.Need-node-target-requires
-node-target-requires c κs = search needs
-
-enum-told-2 : tie.Need-enum-told-2
-enum-told-2 c = search needs
-
-tank-target-requires : tie.Need-tank-target-requires
-tank-target-requires c κs = search needs
-
-enum-told-3 : tie.Need-enum-told-3
-enum-told-3 c = search needs
-
-link-target-requires : tie.Need-link-target-requires
-link-target-requires c κs = search needs
-
 returns : tie.Need-returns
 returns c = rw (c .before .enum-told .given .1) (c .node-target .ensures)
 
@@ -34,12 +16,12 @@ pub attribute-spec : {M : Type 1} → statement M
 attribute-spec =
     tie.close
     (tie.spec
-    enum-told
-    node-target-requires
-    enum-told-2
-    tank-target-requires
-    enum-told-3
-    link-target-requires
+    (search needs)
+    (search needs)
+    (search needs)
+    (search needs)
+    (search needs)
+    (search needs)
     returns
     returns-2
     returns-3)

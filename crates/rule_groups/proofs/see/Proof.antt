@@ -9,38 +9,32 @@ use borrow.Author.Needs.{needs}
 use Rattle.rule_groups.proofs.see.Statement.{statement}
 use Rattle.rule_groups.proofs.see.Tie as tie
 
-enum-known-read : tie.Need-enum-known-read
-enum-known-read c = search needs
-
-enum-known-read-2 : tie.Need-enum-known-read-2
-enum-known-read-2 c = search needs
-
-enum-told : tie.Need-enum-told
-enum-told c = search needs
-
-add-t12 : tie.Need-add-t12
-add-t12 c = search needs
-
-enum-known-read-3 : tie.Need-enum-known-read-3
-enum-known-read-3 c = search needs
-
-add-t14 : tie.Need-add-t14
-add-t14 c = search needs
-
-enum-known-read-4 : tie.Need-enum-known-read-4
-enum-known-read-4 c = search needs
-
 returns : tie.Need-returns
-returns c = λ text d sk fit. (withSaid (saidId (nameIn text (c .before .read .given .0 .0))) d, rw (c .before .read .given .1), see-id sk (c .before .read .given .0 .0) (subst (λ (x : LineRead). LineFits text x) (c .before .read .given .1) fit))
+returns c = λ text d sk fit. (
+  withSaid (saidId (nameIn text (c .before .read .given .0 .0))) d,
+  rw (c .before .read .given .1),
+  see-id sk (c .before .read .given .0 .0) (subst (λ (x : LineRead). LineFits text x) (c .before .read .given .1) fit),
+)
 
 returns-2 : tie.Need-returns-2
 returns-2 c = λ text d sk fit. (withSaid (saidRank (c .before .read2 .given .0 .0)) d, rw (c .before .read2 .given .1), see-rank sk (c .before .read2 .given .0 .0))
 
 returns-3 : tie.Need-returns-3
-returns-3 c = λ text d sk fit. (withSaid (saidCondition (conditionIn text (c .before .enum-told .given .0 .0))) d, rw (c .before .enum-told .given .1), see-condition sk (conditionIn text (c .before .enum-told .given .0 .0)))
+returns-3 c = λ text d sk fit. (
+  withSaid (saidCondition (conditionIn text (c .before .enum-told .given .0 .0))) d,
+  rw (c .before .enum-told .given .1),
+  see-condition sk (conditionIn text (c .before .enum-told .given .0 .0)),
+)
 
 returns-4 : tie.Need-returns-4
-returns-4 c = λ text d sk fit. (withSaid (saidAction (c .before .before .read3 .given .0 .0 .acting) (c .before .before .read3 .given .0 .0 .otherwise) (actionIn text (c .before .before .read3 .given .0 .0 .action))) d, rw (c .before .before .read3 .given .1), see-action sk (c .before .before .read3 .given .0 .0 .acting) (c .before .before .read3 .given .0 .0 .otherwise) (actionIn text (c .before .before .read3 .given .0 .0 .action)))
+returns-4 c =
+    let c2 = c .before .before in
+    λ text d sk fit. (
+      withSaid (saidAction (c2 .read3 .given .0 .0 .acting) (c2 .read3 .given .0 .0 .otherwise)
+          (actionIn text (c2 .read3 .given .0 .0 .action))) d,
+      rw (c2 .read3 .given .1),
+      see-action sk (c2 .read3 .given .0 .0 .acting) (c2 .read3 .given .0 .0 .otherwise) (actionIn text (c2 .read3 .given .0 .0 .action)),
+    )
 
 returns-5 : tie.Need-returns-5
 returns-5 c = λ text d sk fit. rw (c .before .read4 .given .1)
@@ -49,13 +43,13 @@ pub see-spec : {M : Type 1} → statement M
 see-spec =
     tie.close
     (tie.spec
-    enum-known-read
-    enum-known-read-2
-    enum-told
-    add-t12
-    enum-known-read-3
-    add-t14
-    enum-known-read-4
+    (λ c. search needs)
+    (λ c. search needs)
+    (λ c. search needs)
+    (λ c. search needs)
+    (λ c. search needs)
+    (λ c. search needs)
+    (λ c. search needs)
     returns
     returns-2
     returns-3

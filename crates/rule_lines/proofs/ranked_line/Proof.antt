@@ -7,35 +7,19 @@ use borrow.Author.Needs.{needs}
 use Rattle.rule_lines.proofs.ranked_line.Statement.{statement}
 use Rattle.rule_lines.proofs.ranked_line.Tie as tie
 
-field : (c : tie.After-known-told) → (fieldsAt (now (c .before .before .before .before .before .args .l)) (c .before .before .before .before .before .args .at) ≡ nameIn (now (c .before .before .before .before .before .args .l)) (c .before .f .given .0 .0) ∷ fieldsAt (now (c .before .before .before .before .before .args .l)) (c .before .f .given .0 .0 .end)) × Fits (now (c .before .before .before .before .before .args .l)) (c .before .f .given .0 .0)
+field : (c : tie.After-known-told) →
+    let c5 = c .before .before .before .before .before in
+    (fieldsAt (now (c5 .args .l)) (c5 .args .at)
+    ≡ nameIn (now (c5 .args .l)) (c .before .f .given .0 .0) ∷ fieldsAt (now (c5 .args .l)) (c .before .f .given .0 .0 .end)) × Fits (now (c5 .args .l)) (c .before .f .given .0 .0)
 field c = c .before .before .before .next-field .ensures .taken _ (c .before .f .given .1)
-
-next-field-requires : tie.Need-next-field-requires
-next-field-requires c κs = search needs
-
-enum-known-f : tie.Need-enum-known-f
-enum-known-f c = search needs
-
-enum-told : tie.Need-enum-told
-enum-told c = search needs
 
 returns : tie.Need-returns
 returns c = (rw (c .before .before .next-field .ensures .nothing (c .enum-told .given .1)), tt)
 
-letters-of-requires : tie.Need-letters-of-requires
-letters-of-requires c κs = search needs
-
-read-count-requires : tie.Need-read-count-requires
-read-count-requires c κs = search needs
-
-enum-known-n : tie.Need-enum-known-n
-enum-known-n c = search needs
-
-enum-told-2 : tie.Need-enum-told-2
-enum-told-2 c = search needs
-
 returns-2 : tie.Need-returns-2
-returns-2 c = (rw (field (c .before .before .before .before .before) .0, ← c .before .before .before .before .letters-of .ensures, sym (c .before .before .before .read-count .ensures) ∙ c .before .n .given .1), tt)
+returns-2 c =
+    let c3 = c .before .before .before in
+    (rw (field (c3 .before .before) .0, ← c3 .before .letters-of .ensures, sym (c3 .read-count .ensures) ∙ c .before .n .given .1), tt)
 
 returns-3 : tie.Need-returns-3
 returns-3 c = (rw (field (c .before .before .before .before) .0, ← c .before .before .before .letters-of .ensures, sym (c .before .before .read-count .ensures) ∙ c .enum-told2 .given .1), tt)
@@ -44,13 +28,13 @@ pub ranked-line-spec : {M : Type 1} → statement M
 ranked-line-spec =
     tie.close
     (tie.spec
-    next-field-requires
-    enum-known-f
-    enum-told
+    (λ c κs. search needs)
+    (λ c. search needs)
+    (λ c. search needs)
     returns
-    letters-of-requires
-    read-count-requires
-    enum-known-n
-    enum-told-2
+    (λ c κs. search needs)
+    (λ c κs. search needs)
+    (λ c. search needs)
+    (λ c. search needs)
     returns-2
     returns-3)

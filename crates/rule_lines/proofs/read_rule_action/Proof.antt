@@ -9,31 +9,35 @@ use borrow.Author.Needs.{needs}
 use Rattle.rule_lines.proofs.read_rule_action.Statement.{statement}
 use Rattle.rule_lines.proofs.read_rule_action.Tie as tie
 
-read-action-head-requires : tie.Need-read-action-head-requires
-read-action-head-requires c κs = search needs
-
-enum-known-read : tie.Need-enum-known-read
-enum-known-read c = search needs
-
 action-at-requires : tie.Need-action-at-requires
 action-at-requires c κs = c .before .before .before .before .before .before .before .pre
 
-enum-known-read-2 : tie.Need-enum-known-read-2
-enum-known-read-2 c = search needs
-
 returns : tie.Need-returns
-returns c = (λ m w e. c .action-at .ensures .0 m w e ∙ sym (action-parts (c .before .before .before .before .before .before .before .before .args .otherwise) m (fieldsAt (now (c .before .before .before .before .before .before .before .before .args .l)) (c .before .before .before .before .before .before .before .before .args .at)) ∙ rw (sym (c .before .before .before .before .read-action-head .ensures .0) ∙ ap (headRead (now (c .before .before .before .before .before .before .before .before .args .l))) (c .before .before .read .given .1))), c .action-at .ensures .1 (subst (λ (x : HeadRead). HeadFits (now (c .before .before .before .before .before .before .before .before .args .l)) x) (c .before .before .read .given .1) (c .before .before .before .before .read-action-head .ensures .1) .1))
+returns c =
+    let c4 = c .before .before .before .before in
+    let c8 = c4 .before .before .before .before in (
+      λ m w e. c .action-at .ensures .0 m w e
+          ∙ sym (action-parts (c8 .args .otherwise) m (fieldsAt (now (c8 .args .l)) (c8 .args .at))
+          ∙ rw (sym (c4 .read-action-head .ensures .0) ∙ ap (headRead (now (c8 .args .l))) (c .before .before .read .given .1))),
+      c .action-at .ensures .1 (subst (λ (x : HeadRead). HeadFits (now (c8 .args .l)) x) (c .before .before .read .given .1) (c4 .read-action-head .ensures .1) .1),
+    )
 
 returns-2 : tie.Need-returns-2
-returns-2 c = (λ m w e. sym (action-parts (c .before .before .before .before .before .before .before .args .otherwise) m (fieldsAt (now (c .before .before .before .before .before .before .before .args .l)) (c .before .before .before .before .before .before .before .args .at)) ∙ rw (sym (c .before .before .before .read-action-head .ensures .0) ∙ ap (headRead (now (c .before .before .before .before .before .before .before .args .l))) (c .before .read2 .given .1))), tt)
+returns-2 c =
+    let c3 = c .before .before .before in
+    let c7 = c3 .before .before .before .before in (
+      λ m w e. sym (action-parts (c7 .args .otherwise) m (fieldsAt (now (c7 .args .l)) (c7 .args .at))
+          ∙ rw (sym (c3 .read-action-head .ensures .0) ∙ ap (headRead (now (c7 .args .l))) (c .before .read2 .given .1))),
+      tt,
+    )
 
 pub read-rule-action-spec : {M : Type 1} → statement M
 read-rule-action-spec =
     tie.close
     (tie.spec
-    read-action-head-requires
-    enum-known-read
+    (λ c κs. search needs)
+    (λ c. search needs)
     action-at-requires
-    enum-known-read-2
+    (λ c. search needs)
     returns
     returns-2)

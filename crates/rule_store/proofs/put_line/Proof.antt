@@ -8,28 +8,9 @@ use Rattle.rule_store.proofs.put_line.Statement.{statement}
 use Rattle.rule_store.proofs.put_line.Tie as tie
 
 returns : tie.Need-returns
-returns c = put-full (now (c .before .before .before .before .args .text)) (c .before .before .before .before .args .n) (c .before .before .before .before .args .read) (now (c .before .before .before .before .args .words)) (now (c .before .before .before .before .args .numbers)) (c .if1 .taken)
-
-enum-told : tie.Need-enum-told
-enum-told c = search needs
-
-enum-told-2 : tie.Need-enum-told-2
-enum-told-2 c = search needs
-
-enum-known-read : tie.Need-enum-known-read
-enum-known-read c = search needs
-
-put-condition-requires : tie.Need-put-condition-requires
-put-condition-requires c κs = search needs
-
-enum-known-read-2 : tie.Need-enum-known-read-2
-enum-known-read-2 c = search needs
-
-put-action-requires : tie.Need-put-action-requires
-put-action-requires c κs = search needs
-
-enum-told-3 : tie.Need-enum-told-3
-enum-told-3 c = search needs
+returns c =
+    let c4 = c .before .before .before .before in
+    put-full (now (c4 .args .text)) (c4 .args .n) (c4 .args .read) (now (c4 .args .words)) (now (c4 .args .numbers)) (c .if1 .taken)
 
 returns-2 : tie.Need-returns-2
 returns-2 c = rw (c .enum-told .given .1) (refl, refl)
@@ -37,23 +18,17 @@ returns-2 c = rw (c .enum-told .given .1) (refl, refl)
 returns-3 : tie.Need-returns-3
 returns-3 c = rw (c .enum-told2 .given .1) (refl, refl)
 
-same-length : tie.Need-same-length
-same-length c = search needs
-
-same-length-2 : tie.Need-same-length-2
-same-length-2 c = search needs
-
 returns-4 : tie.Need-returns-4
-returns-4 c = rw (c .before .before .before .before .before .before .before .before .read .given .1) ((λ k. c .before .before .before .before .put-condition .ensures), λ k. absurd (omega (arith, c .before .before .before .before .before .before .before .before .before .before .if1 .left)))
-
-same-length-3 : tie.Need-same-length-3
-same-length-3 c = search needs
-
-same-length-4 : tie.Need-same-length-4
-same-length-4 c = search needs
+returns-4 c =
+    let c4 = c .before .before .before .before in
+    let c8 = c4 .before .before .before .before in
+    rw (c8 .read .given .1) ((λ k. c4 .put-condition .ensures), λ k. absurd (omega (arith, c8 .before .before .if1 .left)))
 
 returns-5 : tie.Need-returns-5
-returns-5 c = rw (c .before .before .before .before .before .before .before .before .before .read2 .given .1) ((λ k. c .before .before .before .before .put-action .ensures), λ k. absurd (omega (arith, c .before .before .before .before .before .before .before .before .before .before .before .if1 .left)))
+returns-5 c =
+    let c4 = c .before .before .before .before in
+    let c9 = c4 .before .before .before .before .before in
+    rw (c9 .read2 .given .1) ((λ k. c4 .put-action .ensures), λ k. absurd (omega (arith, c9 .before .before .if1 .left)))
 
 returns-6 : tie.Need-returns-6
 returns-6 c = rw (c .enum-told3 .given .1) (refl, refl)
@@ -63,19 +38,19 @@ put-line-spec =
     tie.close
     (tie.spec
     returns
-    enum-told
-    enum-told-2
-    enum-known-read
-    put-condition-requires
-    enum-known-read-2
-    put-action-requires
-    enum-told-3
+    (λ c. search needs)
+    (λ c. search needs)
+    (λ c. search needs)
+    (λ c κs. search needs)
+    (λ c. search needs)
+    (λ c κs. search needs)
+    (λ c. search needs)
     returns-2
     returns-3
-    same-length
-    same-length-2
+    (λ c. search needs)
+    (λ c. search needs)
     returns-4
-    same-length-3
-    same-length-4
+    (λ c. search needs)
+    (λ c. search needs)
     returns-5
     returns-6)

@@ -4,17 +4,11 @@ use borrow.Author.Needs.{needs}
 use Rattle.rule_values.proofs.either.Statement.{statement}
 use Rattle.rule_values.proofs.either.Tie as tie
 
-equal-requires : tie.Need-equal-requires
-equal-requires c κs = search needs
-
 returns : tie.Need-returns
 returns c = rw (sym (c .before .equal .ensures) ∙ c .if1 .taken)
-
-equal-requires-2 : tie.Need-equal-requires-2
-equal-requires-2 c κs = search needs
 
 returns-2 : tie.Need-returns-2
 returns-2 c = rw (sym (c .before .before .equal .ensures) ∙ c .before .if1 .left) (c .equal2 .ensures)
 
 pub either-spec : {M : Type 1} → statement M
-either-spec = tie.close (tie.spec equal-requires returns equal-requires-2 returns-2)
+either-spec = tie.close (tie.spec (search needs) returns (search needs) returns-2)

@@ -4,18 +4,6 @@ use borrow.Author.Needs.{needs}
 use Rattle.rule_values.proofs.number_value.Statement.{statement}
 use Rattle.rule_values.proofs.number_value.Tie as tie
 
-read-number-requires : tie.Need-read-number-requires
-read-number-requires c κs = search needs
-
-enum-known-n : tie.Need-enum-known-n
-enum-known-n c = search needs
-
-enum-told : tie.Need-enum-told
-enum-told c = search needs
-
-enum-told-2 : tie.Need-enum-told-2
-enum-told-2 c = search needs
-
 returns : tie.Need-returns
 returns c = rw (sym (c .before .before .before .read-number .ensures .0) ∙ c .before .n .given .1)
 
@@ -28,4 +16,4 @@ returns-3 c = rw (sym (c .before .before .read-number .ensures .0) ∙ c .enum-t
 pub number-value-spec : {M : Type 1} → statement M
 number-value-spec =
     tie.close
-    (tie.spec read-number-requires enum-known-n enum-told enum-told-2 returns returns-2 returns-3)
+    (tie.spec (search needs) (search needs) (search needs) (search needs) returns returns-2 returns-3)

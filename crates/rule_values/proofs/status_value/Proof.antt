@@ -4,20 +4,8 @@ use borrow.Author.Needs.{needs}
 use Rattle.rule_values.proofs.status_value.Statement.{statement}
 use Rattle.rule_values.proofs.status_value.Tie as tie
 
-slice-aggregate-equal : tie.Need-slice-aggregate-equal
-slice-aggregate-equal c = search needs
-
-equal-requires : tie.Need-equal-requires
-equal-requires c κs = search needs
-
 returns : tie.Need-returns
 returns c = rw (sym (c .before .equal .ensures) ∙ c .if1 .taken)
-
-slice-aggregate-equal-2 : tie.Need-slice-aggregate-equal-2
-slice-aggregate-equal-2 c = search needs
-
-equal-requires-2 : tie.Need-equal-requires-2
-equal-requires-2 c κs = search needs
 
 returns-2 : tie.Need-returns-2
 returns-2 c = rw (sym (c .before .before .before .before .equal .ensures) ∙ c .before .before .before .if1 .left, sym (c .before .equal2 .ensures) ∙ c .if2 .taken)
@@ -29,10 +17,10 @@ pub status-value-spec : {M : Type 1} → statement M
 status-value-spec =
     tie.close
     (tie.spec
-    slice-aggregate-equal
-    equal-requires
+    (search needs)
+    (search needs)
     returns
-    slice-aggregate-equal-2
-    equal-requires-2
+    (search needs)
+    (search needs)
     returns-2
     returns-3)

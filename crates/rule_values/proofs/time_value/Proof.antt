@@ -4,24 +4,6 @@ use borrow.Author.Needs.{needs}
 use Rattle.rule_values.proofs.time_value.Statement.{statement}
 use Rattle.rule_values.proofs.time_value.Tie as tie
 
-read-time-requires : tie.Need-read-time-requires
-read-time-requires c κs = search needs
-
-enum-known-t : tie.Need-enum-known-t
-enum-known-t c = search needs
-
-seconds-value-requires : tie.Need-seconds-value-requires
-seconds-value-requires c κs = search needs
-
-enum-told : tie.Need-enum-told
-enum-told c = search needs
-
-enum-told-2 : tie.Need-enum-told-2
-enum-told-2 c = search needs
-
-enum-told-3 : tie.Need-enum-told-3
-enum-told-3 c = search needs
-
 returns : tie.Need-returns
 returns c = rw (sym (c .before .before .before .before .read-time .ensures .0) ∙ c .before .before .t .given .1) (c .seconds-value .ensures)
 
@@ -38,12 +20,12 @@ pub time-value-spec : {M : Type 1} → statement M
 time-value-spec =
     tie.close
     (tie.spec
-    read-time-requires
-    enum-known-t
-    seconds-value-requires
-    enum-told
-    enum-told-2
-    enum-told-3
+    (search needs)
+    (search needs)
+    (search needs)
+    (search needs)
+    (search needs)
+    (search needs)
     returns
     returns-2
     returns-3
