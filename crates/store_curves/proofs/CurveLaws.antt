@@ -73,7 +73,8 @@ module _ (w : List ℕ) (f : List Float) (points curve : ℕ) where
         let v : getD f (pointNumbersAt + (k - 1) * pointNumbersWidth + pointX) d ≡ getD (m .points) (k - 1) noPoint .x = point-number (hw .known) hf (k - 1) pointX d noPoint hi (omega arith) in
         rw (split hw hf e, eq-eqb (getD w (pointsAt + (k - 1)) 0) curve h, v)
 
-  pub none-sought : {k : ℕ} → Sought w f points curve k → k ≤ 0 → (x : Float) (text : List ℕ) (m : Network) → Words text m w → Numbers m f → points ≡ length (m .points) → false ≡ falls x (lastX curve (m .points))
+  pub none-sought : {k : ℕ} → Sought w f points curve k → k ≤ 0 → (x : Float) (text : List ℕ) (m : Network) → Words text m w → Numbers m f
+      → points ≡ length (m .points) → false ≡ falls x (lastX curve (m .points))
   unfolding lastX
   none-sought {k} g h x text m hw hf e = let z : k ≡ 0 = omega arith in rw (g .left text m hw hf e, z)
 

@@ -1,35 +1,22 @@
-// Stores what a line of CURVES says, as parse_fields::take_pair reads it.
+// Stores what a line of CURVES says, as parse_pairs::read_pair reads it.
 ghost use mathlib.Core.Path.{_≡_};
 ghost use mathlib.Core.List.{List, [], _∷_};
 ghost use Prim.Native.Nat.{ℕ, _+_, _*_, _≤_, _<_};
 ghost use lib.ListN.{length, take};
 ghost use Rattle.leaf_fields.specs.Fields.{fieldsAt, nameIn, Fits};
-ghost use Rattle.scope.specs.Sections.{roomPoints, roomCurves};
+ghost use Rattle.scope.specs.Sections.{roomPoints};
 ghost use Rattle.scope.specs.Records.{Network};
 ghost use Rattle.scope.specs.Series.{falls, lastX, addPoint, curveStep};
-ghost use Rattle.scope.specs.Tables.{idWords, marked, idSlot};
 ghost use Rattle.table_rows.specs.Table.{splice};
-ghost use Rattle.scope.specs.Layout.{pointsAt, patternsAt, patternSlotsAt, idWidth, pointNumbersAt, pointNumbersWidth, recordWords, roomNumbers};
+ghost use Rattle.scope.specs.Layout.{pointsAt, pointNumbersAt, pointNumbersWidth, recordWords, roomNumbers};
 ghost use Rattle.table_rows.specs.Holding.{Words, Numbers, Holds, Sound, After};
-use leaf_fields::Span;
-use parse_fields::PairLine;
-use parse_fields::PairRead;
+use parse_pairs::PairLine;
+use parse_pairs::PairRead;
 use scope::Counts;
 use scope::Found;
 use scope::Kind;
 use scope::Reason;
 use table_rows::Kept;
-
-// A curve's name, or a pattern's for the crate patterns, as record n of those at `base`, and its slot of those at `slots`: the record of either is its id alone.
-pub fn put_id(text: &[u8], id: Span, n: usize, base: usize, slots: usize, words: &mut [u64])
-    requires { ⌜ (n < roomCurves) × (base ≤ patternsAt) × (slots ≤ patternSlotsAt) × (length (now words) ≡ recordWords) ⌝ }
-    ensures { λ _. ⌜ now (words .exit) ≡ marked (splice (now (words .entry)) (base + n * idWidth) (idWords (nameIn (now (text .entry)) id))) (slots + idSlot (nameIn (now (text .entry)) id)) (n + 1) ⌝ }
-{
-    let name = table_rows::id_words(text, id);
-    table_rows::paste_words(words, base + n * table_rows::ID_WIDTH, &name);
-    let slot = table_rows::slot_of(name[table_rows::ID_KEY]);
-    table_rows::mark(words, slots + slot, n);
-}
 
 // Whether x is less than the last x of a curve: its last point is looked for from the end on.
 fn falls_behind(words: &[u64], numbers: &[f64], points: usize, curve: usize, x: f64) -> bool
@@ -51,7 +38,8 @@ fn falls_behind(words: &[u64], numbers: &[f64], points: usize, curve: usize, x: 
 // Point number k.
 fn put_point(words: &mut [u64], numbers: &mut [f64], k: usize, curve: usize, x: f64, y: f64)
     requires { ⌜ (k < roomPoints) × (length (now words) ≡ recordWords) × (length (now numbers) ≡ roomNumbers) ⌝ }
-    ensures { λ _. ⌜ (now (words .exit) ≡ splice (now (words .entry)) (pointsAt + k) (curve ∷ [])) × (now (numbers .exit) ≡ splice (now (numbers .entry)) (pointNumbersAt + k * pointNumbersWidth) (x ∷ y ∷ [])) ⌝ }
+    ensures { λ _. ⌜ (now (words .exit) ≡ splice (now (words .entry)) (pointsAt + k) (curve ∷ []))
+        × (now (numbers .exit) ≡ splice (now (numbers .entry)) (pointNumbersAt + k * pointNumbersWidth) (x ∷ y ∷ [])) ⌝ }
 {
     table_rows::paste_words(words, table_rows::POINTS_AT + k, &[curve as u64]);
     table_rows::paste_numbers(
@@ -69,7 +57,7 @@ fn store_point(text: &[u8], p: PairLine, s: Counts, words: &mut [u64], numbers: 
     let id = p.id;
     let n = s.curves;
     let k = s.points;
-    let found = table_rows::find_at(text, words, Kind::Curves, n, id);
+    let found = table_find::find_at(text, words, Kind::Curves, n, id);
     let mut t = s;
     t.points = k + 1;
     match found {
@@ -86,7 +74,7 @@ fn store_point(text: &[u8], p: PairLine, s: Counts, words: &mut [u64], numbers: 
         Found::Nowhere => {
             if n < table_rows::CURVES_MOST {
                 if k < table_rows::POINTS_MOST {
-                    put_id(
+                    table_rows::put_id(
                         text,
                         id,
                         n,
@@ -117,7 +105,7 @@ pub fn curve_line(
     ensures { λ r. ⌜ ((m : Network) → Holds (now (text .entry)) m s (now (words .entry)) (now (numbers .entry))
         → After (now (text .entry)) (curveStep (fieldsAt (take end (now (text .entry))) at) m) r (now (words .entry)) (now (numbers .entry)) (now (words .exit)) (now (numbers .exit))) ⌝ }
 {
-    let read = parse_fields::take_pair(&text[..end], at);
+    let read = parse_pairs::read_pair(&text[..end], at);
     match read {
         PairRead::Pair(p) => store_point(text, p, s, words, numbers),
         PairRead::NoPair(why) => Kept::Refused(why),

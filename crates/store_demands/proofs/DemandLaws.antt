@@ -30,9 +30,9 @@ use Rattle.table_rows.specs.Holding.{SitsOr, Words, Holds, After, FirstInSlot, 
 use Rattle.table_rows.specs.declared.Kept.{Kept}
 use Rattle.table_rows.specs.declared.Kept.the-variants.{Stored, Refused}
 use Rattle.table_rows.proofs.HoldLaws.{sits-field, add-demand, change-demand, same-count-demands, count-nodes, count-demands}
-use Rattle.table_rows.proofs.LookLaws.{found-below}
+use Rattle.table_find.proofs.LookLaws.{found-below}
 use Rattle.table_rows.proofs.ReadLaws.{demand-word, node-count}
-use Rattle.table_rows.proofs.StartLaws.{demand-slot}
+use Rattle.table_find.proofs.StartLaws.{demand-slot}
 use Rattle.store_demands.specs.Storing.{isOwn}
 
 -- ---- one demand
@@ -79,7 +79,9 @@ module _ {text : List ℕ} {m : Network} {w : List ℕ} (hw : Words text m w) (n
       let d : Demand = getD (m .demands) j noDemand in
       let both = and-true (eqb (d .node) node) (d .own) e in
       let f = hw .known .owned .first j hj (both .1) in
-      let q : getD w (demandSlotsAt + node % demandSlotsLong) 0 ≡ suc j = demand-slot hw (node % demandSlotsLong) (omega arith) ∙ ap (λ (i : ℕ). getD (slots demandSlot demandSlotsLong (m .demands)) (i % demandSlotsLong) 0) (sym (eqb-true (d .node) node (both .0))) ∙ f in
+      let q : getD w (demandSlotsAt + node % demandSlotsLong) 0 ≡ suc j =
+      demand-slot hw (node % demandSlotsLong) (omega arith)
+      ∙ ap (λ (i : ℕ). getD (slots demandSlot demandSlotsLong (m .demands)) (i % demandSlotsLong) 0) (sym (eqb-true (d .node) node (both .0))) ∙ f in
       omega (arith, q, at (omega (arith, q)) (omega (arith, q)))
 
   not-others : (j : ℕ) → j < length (m .demands) → (j ≡ k → ⊥) → isOwn (getD (m .demands) j noDemand) node ≡ false
@@ -186,7 +188,8 @@ module _ {text : List ℕ} {m : Network} {s : Counts} {w : List ℕ} {f : List F
     unfolding addDemand
     replaced k w1 f1 e fits ew ef =
         let d : Demand = demandAt node x (optIn text p) in
-        let h1 = change-demand h k noDemand d (own-in node (m .demands) k e) (sits text p fits) (ap (λ (i : ℕ). i % demandSlotsLong) (sym (own-node node (m .demands) k e))) (λ f. absurd (false≢true f)) ew ef in
+        let h1 = change-demand h k noDemand d (own-in node (m .demands) k e) (sits text p fits)
+        (ap (λ (i : ℕ). i % demandSlotsLong) (sym (own-node node (m .demands) k e))) (λ f. absurd (false≢true f)) ew ef in
         rw e (ap Stored (h .counts ∙ sym (same-count-demands m k d)), h1)
 
   module _ (id : Span) where
@@ -204,7 +207,8 @@ module _ {text : List ℕ} {m : Network} {s : Counts} {w : List ℕ} {f : List F
       pub node-below : i < length (m .nodes)
       node-below = omega (arith, found-below (nodeIds m) letters e, node-count m)
 
-      by-kind : (k : NodeKind) (r : Kept) (w′ : List ℕ) (f′ : List Float) → getD (m .nodes) i noNode .kind ≡ k → isJunction k ≡ true → After text (addDemand i x (optIn text p) m) r w f w′ f′ → Sets r w′ f′
+      by-kind : (k : NodeKind) (r : Kept) (w′ : List ℕ) (f′ : List Float) → getD (m .nodes) i noNode .kind ≡ k → isJunction k ≡ true
+          → After text (addDemand i x (optIn text p) m) r w f w′ f′ → Sets r w′ f′
       unfolding setDemand
       by-kind (junction j) r w′ f′ q t a = rw (e, q) a
       by-kind (reservoir j) r w′ f′ q t a = absurd (let z : _≡_ {A = ℕ} 0 1 = cc in omega arith)

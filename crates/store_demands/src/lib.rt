@@ -1,4 +1,4 @@
-// Stores what a line of DEMANDS says, as serieslines reads it: the first line of a junction takes the place of the demand of its own line.
+// Stores what a line of DEMANDS says, as parse_series reads it: the first line of a junction takes the place of the demand of its own line.
 ghost use mathlib.Core.Path.{_≡_};
 ghost use mathlib.Core.List.{List, [], _∷_};
 ghost use Prim.Native.Nat.{ℕ, _+_, _*_, _≤_, _<_};
@@ -37,7 +37,7 @@ fn own_demand(words: &[u64], demands: usize, node: usize) -> Found
     requires { ⌜ (demands ≤ roomDemands) × (length (now words) ≡ recordWords) ⌝ }
     ensures { λ r. ⌜ ((text : List ℕ) (m : Network) → Words text m (now (words .entry)) → demands ≡ length (m .demands) → r ≡ ownFrom 0 node (m .demands)) ⌝ }
 {
-    let k = table_rows::first_in_slot(
+    let k = table_find::first_in_slot(
         words,
         table_rows::DEMAND_SLOTS_AT + node % table_rows::DEMAND_SLOTS_MOST,
         demands,
@@ -60,7 +60,8 @@ fn put_demand(
     numbers: &mut [f64],
 )
     requires { ⌜ (k < roomDemands) × (length (now words) ≡ recordWords) × (length (now numbers) ≡ roomNumbers) ⌝ }
-    ensures { λ _. ⌜ (now (words .exit) ≡ splice (now (words .entry)) (demandsAt + k * demandsWidth) (demandWords (demandAt node (d .base) (optIn (now (text .entry)) (d .pattern))))) × (now (numbers .exit) ≡ splice (now (numbers .entry)) (demandNumbersAt + k) (d .base ∷ [])) ⌝ }
+    ensures { λ _. ⌜ (now (words .exit) ≡ splice (now (words .entry)) (demandsAt + k * demandsWidth)
+        (demandWords (demandAt node (d .base) (optIn (now (text .entry)) (d .pattern))))) × (now (numbers .exit) ≡ splice (now (numbers .entry)) (demandNumbersAt + k) (d .base ∷ [])) ⌝ }
 {
     let pattern = d.pattern;
     let p = table_rows::name_words(text, pattern);
@@ -124,13 +125,14 @@ fn store_demand(
 ) -> Kept
     requires { ⌜ Sound (now text) s (now words) (now numbers) × Fits (now text) (d .id) × MayFit (now text) (d .pattern) ⌝ }
     ensures { λ r. ⌜ ((m : Network) → Holds (now (text .entry)) m s (now (words .entry)) (now (numbers .entry))
-        → After (now (text .entry)) (setDemand (nameIn (now (text .entry)) (d .id)) (d .base) (optIn (now (text .entry)) (d .pattern)) m) r (now (words .entry)) (now (numbers .entry)) (now (words .exit)) (now (numbers .exit))) ⌝ }
+        → After (now (text .entry)) (setDemand (nameIn (now (text .entry)) (d .id)) (d .base) (optIn (now (text .entry)) (d .pattern)) m) r (now (words .entry))
+        (now (numbers .entry)) (now (words .exit)) (now (numbers .exit))) ⌝ }
 {
-    let found = table_rows::node_named(text, words, s.nodes, d.id);
+    let found = table_find::node_named(text, words, s.nodes, d.id);
     let Found::At(i) = found else {
         return Kept::Refused(Reason::NotFound);
     };
-    if table_rows::is_junction(words, i) {
+    if table_find::is_junction(words, i) {
         return add_demand(text, d, i, s, words, numbers);
     }
     Kept::Refused(Reason::WrongKind)

@@ -1,4 +1,4 @@
-// Stores what a line of PIPES, PUMPS or VALVES says (linklines, pumplines and valvelines read it): the two nodes are looked up and the link is appended.
+// Stores what a line of PIPES, PUMPS or VALVES says (parse_pipes, parse_pumps and parse_valves read it): the two nodes are looked up and the link is appended.
 ghost use mathlib.Core.Path.{_≡_};
 ghost use mathlib.Core.List.{List};
 ghost use Prim.Native.Nat.{ℕ, _+_, _*_, _≤_, _<_};
@@ -38,11 +38,11 @@ fn find_ends(text: &[u8], names: LinkNames, nodes: usize, words: &[u64]) -> Ends
     ensures { λ r. ⌜ ((m : Network) → Words (now (text .entry)) m (now (words .entry)) → nodes ≡ length (m .nodes)
         → EndsAs (endsOf (nameIn (now (text .entry)) (names .start)) (nameIn (now (text .entry)) (names .end)) m) r) ⌝ }
 {
-    let first = table_rows::node_named(text, words, nodes, names.start);
+    let first = table_find::node_named(text, words, nodes, names.start);
     let Found::At(from) = first else {
         return EndsFound::NotBoth;
     };
-    let second = table_rows::node_named(text, words, nodes, names.end);
+    let second = table_find::node_named(text, words, nodes, names.end);
     let Found::At(to) = second else {
         return EndsFound::NotBoth;
     };
@@ -152,11 +152,12 @@ fn add_link(
 ) -> Kept
     requires { ⌜ Sound (now text) s (now words) (now numbers) × Fits (now text) id ⌝ }
     ensures { λ r. ⌜ ((m : Network) → Holds (now (text .entry)) m s (now (words .entry)) (now (numbers .entry))
-        → After (now (text .entry)) (addLink (nameIn (now (text .entry)) id) (endsAt from to) (kindIn (now (text .entry)) kind) m) r (now (words .entry)) (now (numbers .entry)) (now (words .exit)) (now (numbers .exit))) ⌝ }
+        → After (now (text .entry)) (addLink (nameIn (now (text .entry)) id) (endsAt from to) (kindIn (now (text .entry)) kind) m) r (now (words .entry))
+        (now (numbers .entry)) (now (words .exit)) (now (numbers .exit))) ⌝ }
 {
     let n = s.links;
     let who = table_rows::id_words(text, id);
-    let found = table_rows::find(
+    let found = table_find::find(
         text,
         words,
         Kind::Links,

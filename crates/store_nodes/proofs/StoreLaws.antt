@@ -41,7 +41,8 @@ own-words l n (some q) e = rw e
 
 -- ---- a reservoir or a tank
 pub reservoir-kind : (text : List ℕ) (r : ReservoirLine) → MayFit text (r .pattern)
-    → KindAs text (reservoir (record { elevation = r .elevation; pattern = optIn text (r .pattern); index = none })) 2 (r .pattern) 0 (r .elevation ∷ zeroF ∷ zeroF ∷ zeroF ∷ zeroF ∷ zeroF ∷ zeroF ∷ zeroF ∷ [])
+    → KindAs text (reservoir (record { elevation = r .elevation; pattern = optIn text (r .pattern); index = none })) 2 (r .pattern) 0
+    (r .elevation ∷ zeroF ∷ zeroF ∷ zeroF ∷ zeroF ∷ zeroF ∷ zeroF ∷ zeroF ∷ [])
 reservoir-kind text r may = record { words = refl; numbers = λ id. refl; pattern = sits-field text (r .pattern) may }
 
 pub tank-kind : (text : List ℕ) (t : coded.Tank) (over : ℕ) → over ≡ flag (t .overflow)
@@ -59,7 +60,8 @@ module _ {text : List ℕ} {m : Network} {s : Counts} {w : List ℕ} {f : List F
     node-full n = rw (free, le-ltb (length (m .nodes)) roomNodes (omega (arith, n, count-nodes h))) (refl, refl, refl)
 
     pub node-stored : {w1 : List ℕ} {f1 : List Float} (kind : ℕ) (name : Field) (last : ℕ) (amounts : List Float) → Fits text id → KindAs text k kind name last amounts → s .nodes < roomNodes
-        → w1 ≡ marked (splice w (nodesAt + s .nodes * nodesWidth) (newWords (nameIn text id) kind (optIn text name) last)) (nodeSlotsAt + nodeSlot (newNode (nameIn text id) k)) (s .nodes + 1) → f1 ≡ splice f (nodeNumbersAt + s .nodes * nodeNumbersWidth) amounts
+        → w1 ≡ marked (splice w (nodesAt + s .nodes * nodesWidth) (newWords (nameIn text id) kind (optIn text name) last))
+        (nodeSlotsAt + nodeSlot (newNode (nameIn text id) k)) (s .nodes + 1) → f1 ≡ splice f (nodeNumbersAt + s .nodes * nodeNumbersWidth) amounts
         → After text (addNode (newNode (nameIn text id) k) m)
         (Stored (record { nodes = s .nodes + 1; links = s .links; curves = s .curves; points = s .points; patterns = s .patterns; multipliers = s .multipliers; demands = s .demands; rules = s .rules; clauses = s .clauses }))
         w f w1 f1
@@ -90,7 +92,8 @@ module _ {text : List ℕ} {m : Network} {s : Counts} {w : List ℕ} {f : List F
 
     pub junction-stored : {w1 : List ℕ} {f1 : List Float} → Fits text (j .id) → MayFit text (j .pattern) → s .nodes < roomNodes → s .demands < roomDemands
         → w1 ≡ demandAdded (nodeAdded w (s .nodes) (junctionNode (junctionIn text j))) (s .demands) (junctionDemand (s .nodes) (junctionIn text j))
-        → f1 ≡ splice (splice f (nodeNumbersAt + s .nodes * nodeNumbersWidth) (nodeNumbers (junctionNode (junctionIn text j)))) (demandNumbersAt + s .demands) (demandNumbers (junctionDemand (s .nodes) (junctionIn text j)))
+        → f1 ≡ splice (splice f (nodeNumbersAt + s .nodes * nodeNumbersWidth) (nodeNumbers (junctionNode (junctionIn text j)))) (demandNumbersAt + s .demands)
+        (demandNumbers (junctionDemand (s .nodes) (junctionIn text j)))
         → After text (addJunction (junctionIn text j) m)
         (Stored (record { nodes = s .nodes + 1; links = s .links; curves = s .curves; points = s .points; patterns = s .patterns; multipliers = s .multipliers; demands = s .demands + 1; rules = s .rules; clauses = s .clauses }))
         w f w1 f1

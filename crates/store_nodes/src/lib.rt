@@ -1,4 +1,4 @@
-// Stores what a line of JUNCTIONS, RESERVOIRS or TANKS says, as nodelines and tanklines read it: the name is looked up and the record stored.
+// Stores what a line of JUNCTIONS, RESERVOIRS or TANKS says, as parse_nodes and parse_tanks read it: the name is looked up and the record stored.
 ghost use mathlib.Core.Path.{_≡_};
 ghost use Prim.Native.Nat.{_+_, _*_, _%_, _≤_, _<_};
 ghost use lib.ListN.{length, take};
@@ -9,7 +9,8 @@ ghost use Rattle.scope.specs.Values.{Read, onRead};
 ghost use Rattle.scope.specs.Nodes.{junctionNode, tankNode, junctionDemand, addJunction, addNode, junctionStep, reservoirStep, tankStep};
 ghost use Rattle.scope.specs.Tables.{keyOf, marked, slotOf, idWords, nodeNumbers, demandNumbers};
 ghost use Rattle.table_rows.specs.Table.{splice};
-ghost use Rattle.scope.specs.Layout.{nodesAt, nodesWidth, nodeSlotsAt, nodeNumbersAt, nodeNumbersWidth, demandsAt, demandsWidth, demandSlotsAt, demandNumbersAt, recordWords, roomNumbers, demandSlotsLong};
+ghost use Rattle.scope.specs.Layout.{nodesAt, nodesWidth, nodeSlotsAt, nodeNumbersAt, nodeNumbersWidth, demandsAt, demandsWidth, demandSlotsAt, demandNumbersAt};
+ghost use Rattle.scope.specs.Layout.{recordWords, roomNumbers, demandSlotsLong};
 ghost use Rattle.table_rows.specs.Adding.{nodeAdded, demandAdded};
 ghost use Rattle.table_rows.specs.Holding.{Holds, Sound, After};
 ghost use Rattle.parse_nodes.specs.Lines.{junctionIn, reservoirIn, tankIn, NodeAs};
@@ -40,7 +41,9 @@ fn put_node(
     words: &mut [u64],
 )
     requires { ⌜ (i < roomNodes) × (length (now words) ≡ recordWords) ⌝ }
-    ensures { λ _. ⌜ ((id : Name) → who ≡ idWords id → now (words .exit) ≡ marked (splice (now (words .entry)) (nodesAt + i * nodesWidth) (newWords id kind (optIn (now (text .entry)) name) last)) (nodeSlotsAt + slotOf (keyOf (id .letters))) (i + 1)) ⌝ }
+    ensures { λ _. ⌜ ((id : Name) → who ≡ idWords id
+        → now (words .exit) ≡ marked (splice (now (words .entry)) (nodesAt + i * nodesWidth) (newWords id kind (optIn (now (text .entry)) name) last))
+        (nodeSlotsAt + slotOf (keyOf (id .letters))) (i + 1)) ⌝ }
 {
     let which = table_rows::name_words(text, name);
     table_rows::paste_words(
@@ -64,7 +67,8 @@ fn put_node(
 // The words of demand `d`: node `n` has it from its own line.
 fn put_demand(text: &[u8], d: usize, n: usize, pattern: Field, words: &mut [u64])
     requires { ⌜ (d < roomDemands) × (length (now words) ≡ recordWords) ⌝ }
-    ensures { λ _. ⌜ now (words .exit) ≡ marked (splice (now (words .entry)) (demandsAt + d * demandsWidth) (ownWords n (optIn (now (text .entry)) pattern))) (demandSlotsAt + n % demandSlotsLong) (d + 1) ⌝ }
+    ensures { λ _. ⌜ now (words .exit) ≡ marked (splice (now (words .entry)) (demandsAt + d * demandsWidth) (ownWords n (optIn (now (text .entry)) pattern)))
+        (demandSlotsAt + n % demandSlotsLong) (d + 1) ⌝ }
 {
     let which = table_rows::name_words(text, pattern);
     table_rows::paste_words(
@@ -97,7 +101,8 @@ fn put_junction(
 )
     requires { ⌜ (n < roomNodes) × (d < roomDemands) × (length (now words) ≡ recordWords) × (length (now numbers) ≡ roomNumbers) × (who ≡ idWords (nameIn (now text) (j .id))) ⌝ }
     ensures { λ _. ⌜ (now (words .exit) ≡ demandAdded (nodeAdded (now (words .entry)) n (junctionNode (junctionIn (now (text .entry)) j))) d (junctionDemand n (junctionIn (now (text .entry)) j)))
-        × (now (numbers .exit) ≡ splice (splice (now (numbers .entry)) (nodeNumbersAt + n * nodeNumbersWidth) (nodeNumbers (junctionNode (junctionIn (now (text .entry)) j)))) (demandNumbersAt + d) (demandNumbers (junctionDemand n (junctionIn (now (text .entry)) j)))) ⌝ }
+        × (now (numbers .exit) ≡ splice (splice (now (numbers .entry)) (nodeNumbersAt + n * nodeNumbersWidth)
+        (nodeNumbers (junctionNode (junctionIn (now (text .entry)) j)))) (demandNumbersAt + d) (demandNumbers (junctionDemand n (junctionIn (now (text .entry)) j)))) ⌝ }
 {
     let pattern = j.pattern;
     let disabled = table_rows::flag_of(j.disabled);
@@ -133,7 +138,7 @@ fn store_junction(
     let n = s.nodes;
     let d = s.demands;
     let who = table_rows::id_words(text, j.id);
-    let found = table_rows::find(
+    let found = table_find::find(
         text,
         words,
         Kind::Nodes,
@@ -169,12 +174,13 @@ fn store_node(
     numbers: &mut [f64],
 ) -> Kept
     requires { ⌜ Sound (now text) s (now words) (now numbers) × (length (now amounts) ≡ nodeNumbersWidth) ⌝ }
-    ensures { λ r. ⌜ (Fits (now (text .entry)) id → (k : NodeKind) → KindAs (now (text .entry)) k kind name last (now (amounts .entry)) → (m : Network) → Holds (now (text .entry)) m s (now (words .entry)) (now (numbers .entry))
+    ensures { λ r. ⌜ (Fits (now (text .entry)) id → (k : NodeKind) → KindAs (now (text .entry)) k kind name last (now (amounts .entry)) → (m : Network)
+        → Holds (now (text .entry)) m s (now (words .entry)) (now (numbers .entry))
         → After (now (text .entry)) (addNode (newNode (nameIn (now (text .entry)) id) k) m) r (now (words .entry)) (now (numbers .entry)) (now (words .exit)) (now (numbers .exit))) ⌝ }
 {
     let n = s.nodes;
     let who = table_rows::id_words(text, id);
-    let found = table_rows::find(
+    let found = table_find::find(
         text,
         words,
         Kind::Nodes,
@@ -235,7 +241,8 @@ fn store_tank(
 ) -> Kept
     requires { ⌜ Sound (now text) s (now words) (now numbers) ⌝ }
     ensures { λ r. ⌜ (Fits (now (text .entry)) id → (m : Network) → Holds (now (text .entry)) m s (now (words .entry)) (now (numbers .entry))
-        → After (now (text .entry)) (addNode (tankNode (nameIn (now (text .entry)) id) (tankIn (now (text .entry)) tank)) m) r (now (words .entry)) (now (numbers .entry)) (now (words .exit)) (now (numbers .exit))) ⌝ }
+        → After (now (text .entry)) (addNode (tankNode (nameIn (now (text .entry)) id) (tankIn (now (text .entry)) tank)) m) r (now (words .entry))
+        (now (numbers .entry)) (now (words .exit)) (now (numbers .exit))) ⌝ }
 {
     let curve = tank.curve;
     let overflow = table_rows::flag_of(tank.overflow);

@@ -13,7 +13,8 @@ use Rattle.parse_fields.proofs.TextLaws.{name-text}
 abbrev pub patternFrom : List ℕ → Span → List Float → PatternFields
 patternFrom l id xs = record { id = nameIn l id; values = xs }
 
-pub pattern-text : (text : List ℕ) (end : ℕ) {o : Read PatternFields} {id : Span} {xs : List Float} → o ≡ good (patternFrom (take end text) id xs) → Fits (take end text) id → o ≡ good (patternFrom text id xs)
+pub pattern-text : (text : List ℕ) (end : ℕ) {o : Read PatternFields} {id : Span} {xs : List Float} → o ≡ good (patternFrom (take end text) id xs)
+    → Fits (take end text) id → o ≡ good (patternFrom text id xs)
 pattern-text text end {o} {id} {xs} e a =
     let q : patternFrom (take end text) id xs ≡ patternFrom text id xs = rw (name-text text end id a) in
     e ∙ ap good q

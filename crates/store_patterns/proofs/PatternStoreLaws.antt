@@ -59,7 +59,8 @@ module _ {text : List ℕ} {m : Network} {s : Counts} {w : List ℕ} {f : List F
   found-full : (o : Found) → lookup (m .patterns) letters ≡ o → roomMultipliers < s .multipliers + length xs → After text (addPattern (nameIn text id) xs m) (Refused NoRoom) w f w f
   unfolding addPattern
   found-full (At i) e k = rw (e, lt-leb (length (m .multipliers) + length xs) roomMultipliers (omega (arith, k, count-multipliers h))) (refl, refl, refl)
-  found-full Nowhere e k = rw (e, lt-leb (length (m .multipliers) + length xs) roomMultipliers (omega (arith, k, count-multipliers h)), and-false (ltb (length (m .patterns)) roomPatterns)) (refl, refl, refl)
+  found-full Nowhere e k =
+      rw (e, lt-leb (length (m .multipliers) + length xs) roomMultipliers (omega (arith, k, count-multipliers h)), and-false (ltb (length (m .patterns)) roomPatterns)) (refl, refl, refl)
 
   pub values-full : roomMultipliers < s .multipliers + length xs → After text (addPattern (nameIn text id) xs m) (Refused NoRoom) w f w f
   values-full k = found-full (lookup (m .patterns) letters) refl k

@@ -56,7 +56,8 @@ module _ {xs : List Float} {k pattern : ℕ} {w0 w : List ℕ} {f0 f : List Floa
         room = g .room;
         words-room = g .words-room;
         numbers-room = g .numbers-room;
-        words = rw (g .words, add-one) (ap (λ (v : ℕ). set (paste w0 (multipliersAt + k) (replicate (length xs) pattern) j) (multipliersAt + k + j) v) (sym rep) ∙ paste-suc w0 (multipliersAt + k) (replicate (length xs) pattern) j 0 (omega (arith, h, g .room, g .words-room)) (rw (length-replicate (length xs) pattern) h));
+        words = rw (g .words, add-one) (ap (λ (v : ℕ). set (paste w0 (multipliersAt + k) (replicate (length xs) pattern) j) (multipliersAt + k + j) v) (sym rep)
+            ∙ paste-suc w0 (multipliersAt + k) (replicate (length xs) pattern) j 0 (omega (arith, h, g .room, g .words-room)) (rw (length-replicate (length xs) pattern) h));
         numbers = rw (g .numbers, add-one) (paste-suc f0 (multiplierNumbersAt + k) xs j nan (omega (arith, h, g .room, g .numbers-room)) h);
         words-long = length-set w (multipliersAt + k + j) pattern ∙ g .words-long;
         numbers-long = length-set f (multiplierNumbersAt + k + j) (getD xs j nan) ∙ g .numbers-long;
@@ -91,7 +92,8 @@ pub record Storing (fs gs : List Name) (k pattern : ℕ) (w0 w : List ℕ) (f0 f
   pub left : multipliersOf gs ≡ good (drop j xs)
   pub placed : Placed xs k pattern w0 w f0 f j
 
-pub start-storing : (fs : List Name) (k pattern : ℕ) (w : List ℕ) (f : List Float) (xs : List Float) → multipliersOf fs ≡ good xs → k + length xs ≤ roomMultipliers → length w ≡ recordWords → length f ≡ roomNumbers
+pub start-storing : (fs : List Name) (k pattern : ℕ) (w : List ℕ) (f : List Float) (xs : List Float) → multipliersOf fs ≡ good xs
+    → k + length xs ≤ roomMultipliers → length w ≡ recordWords → length f ≡ roomNumbers
     → Storing fs fs k pattern w w f f k
 start-storing fs k pattern w f xs e h hw hf =
     record {
@@ -159,7 +161,8 @@ splice-two {A} w a xs ys h =
     sym (drop-drop (length ys) (a + length xs) (splice w a xs)) ∙ ap (drop (length ys)) (drop-at head tail (a + length xs) long) ∙ drop-drop (length ys) (a + length xs) w ∙ rw sum in
     rw (t, d) (simp append-assoc)
 
-put-two : {A : Type 0} (w0 : List A) {w1 w : List A} (a b : ℕ) (xs ys zs : List A) → a + length xs ≤ length w0 → b ≡ a + length xs → xs ++ ys ≡ zs → w1 ≡ splice w0 a xs → w ≡ splice w1 b ys → w ≡ splice w0 a zs
+put-two : {A : Type 0} (w0 : List A) {w1 w : List A} (a b : ℕ) (xs ys zs : List A) → a + length xs ≤ length w0 → b ≡ a + length xs → xs ++ ys ≡ zs
+    → w1 ≡ splice w0 a xs → w ≡ splice w1 b ys → w ≡ splice w0 a zs
 put-two w0 a b xs ys zs h at all first then = then ∙ rw (first, at, ← all) (splice-two w0 a xs ys h)
 
 -- the multipliers of a line: those that were kept, and then the others
@@ -193,6 +196,7 @@ module _ {l : List ℕ} {first : List Float} {count rest : ℕ} {xs : List Float
         let n = some-long h in
         let r : length (replicate (length first) pattern) ≡ length first = length-replicate (length first) pattern in
         let both : replicate (length first) pattern ++ replicate (length others) pattern ≡ replicate (length xs) pattern = replicate-append-replicate (length first) (length others) pattern ∙ rw n in (
-          put-two w0 (multipliersAt + k) (multipliersAt + (k + length first)) (replicate (length first) pattern) (replicate (length others) pattern) (replicate (length xs) pattern) (omega arith) (omega arith) both (a .0) (b .0),
+          put-two w0 (multipliersAt + k) (multipliersAt + (k + length first)) (replicate (length first) pattern) (replicate (length others) pattern)
+              (replicate (length xs) pattern) (omega arith) (omega arith) both (a .0) (b .0),
           put-two f0 (multiplierNumbersAt + k) (multiplierNumbersAt + (k + length first)) first others xs (omega arith) (omega arith) (some-kept h) (a .1) (b .1),
         )

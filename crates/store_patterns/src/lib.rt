@@ -1,4 +1,4 @@
-// Stores what a line of PATTERNS says, as serieslines reads it.
+// Stores what a line of PATTERNS says, as parse_series reads it.
 ghost use mathlib.Core.Path.{_≡_};
 ghost use mathlib.Core.List.{List};
 ghost use Prim.Native.Nat.{_+_, _≤_};
@@ -20,14 +20,15 @@ use scope::Counts;
 use scope::Found;
 use scope::Kind;
 use scope::Reason;
-use store_curves::put_id;
 use table_rows::Kept;
 
 // The numbers from `at` on as multipliers of a pattern, from multiplier number `k` on.
 fn put_rest(l: &[u8], at: usize, k: usize, pattern: usize, words: &mut [u64], numbers: &mut [f64])
-    requires { ⌜ ((xs : List Float) × (multipliersOf (fieldsAt (now l) at) ≡ good xs) × (k + length xs ≤ roomMultipliers) × (length (now words) ≡ recordWords) × (length (now numbers) ≡ roomNumbers)) ⌝ }
+    requires { ⌜ ((xs : List Float) × (multipliersOf (fieldsAt (now l) at) ≡ good xs) × (k + length xs ≤ roomMultipliers) × (length (now words) ≡ recordWords)
+        × (length (now numbers) ≡ roomNumbers)) ⌝ }
     ensures { λ _. ⌜ ((xs : List Float) → multipliersOf (fieldsAt (now (l .entry)) at) ≡ good xs
-        → (now (words .exit) ≡ splice (now (words .entry)) (multipliersAt + k) (replicate (length xs) pattern)) × (now (numbers .exit) ≡ splice (now (numbers .entry)) (multiplierNumbersAt + k) xs)) ⌝ }
+        → (now (words .exit) ≡ splice (now (words .entry)) (multipliersAt + k) (replicate (length xs) pattern))
+        × (now (numbers .exit) ≡ splice (now (numbers .entry)) (multiplierNumbersAt + k) xs)) ⌝ }
 {
     let mut i = k;
     let mut p = at;
@@ -46,7 +47,8 @@ fn put_rest(l: &[u8], at: usize, k: usize, pattern: usize, words: &mut [u64], nu
 // The numbers as multipliers of a pattern, from multiplier number `k` on.
 fn put_numbers(xs: &[f64], k: usize, pattern: usize, words: &mut [u64], numbers: &mut [f64])
     requires { ⌜ (k + length (now xs) ≤ roomMultipliers) × (length (now words) ≡ recordWords) × (length (now numbers) ≡ roomNumbers) ⌝ }
-    ensures { λ _. ⌜ (now (words .exit) ≡ splice (now (words .entry)) (multipliersAt + k) (replicate (length (now (xs .entry))) pattern)) × (now (numbers .exit) ≡ splice (now (numbers .entry)) (multiplierNumbersAt + k) (now (xs .entry))) ⌝ }
+    ensures { λ _. ⌜ (now (words .exit) ≡ splice (now (words .entry)) (multipliersAt + k) (replicate (length (now (xs .entry))) pattern))
+        × (now (numbers .exit) ≡ splice (now (numbers .entry)) (multiplierNumbersAt + k) (now (xs .entry))) ⌝ }
 {
     let mut i = 0;
     while i < xs.len() {
@@ -66,9 +68,11 @@ fn put_multipliers(
     words: &mut [u64],
     numbers: &mut [f64],
 )
-    requires { ⌜ ((xs : List Float) × Multipliers (now l) (now first) (p .count) (p .rest) xs × (k + length xs ≤ roomMultipliers) × (length (now words) ≡ recordWords) × (length (now numbers) ≡ roomNumbers)) ⌝ }
+    requires { ⌜ ((xs : List Float) × Multipliers (now l) (now first) (p .count) (p .rest) xs × (k + length xs ≤ roomMultipliers)
+        × (length (now words) ≡ recordWords) × (length (now numbers) ≡ roomNumbers)) ⌝ }
     ensures { λ _. ⌜ ((xs : List Float) → Multipliers (now (l .entry)) (now (first .entry)) (p .count) (p .rest) xs
-        → (now (words .exit) ≡ splice (now (words .entry)) (multipliersAt + k) (replicate (length xs) pattern)) × (now (numbers .exit) ≡ splice (now (numbers .entry)) (multiplierNumbersAt + k) xs)) ⌝ }
+        → (now (words .exit) ≡ splice (now (words .entry)) (multipliersAt + k) (replicate (length xs) pattern))
+        × (now (numbers .exit) ≡ splice (now (numbers .entry)) (multiplierNumbersAt + k) xs)) ⌝ }
 {
     let count = p.count;
     if count <= first.len() {
@@ -89,14 +93,15 @@ fn store_pattern(
     numbers: &mut [f64],
 ) -> Kept
     requires { ⌜ Sound (now text) s (now words) (now numbers) × Fits (now text) (p .id) × ((xs : List Float) × Multipliers (now line) (now first) (p .count) (p .rest) xs) ⌝ }
-    ensures { λ r. ⌜ ((m : Network) (xs : List Float) → Holds (now (text .entry)) m s (now (words .entry)) (now (numbers .entry)) → Multipliers (now (line .entry)) (now (first .entry)) (p .count) (p .rest) xs
+    ensures { λ r. ⌜ ((m : Network) (xs : List Float) → Holds (now (text .entry)) m s (now (words .entry)) (now (numbers .entry))
+        → Multipliers (now (line .entry)) (now (first .entry)) (p .count) (p .rest) xs
         → After (now (text .entry)) (addPattern (nameIn (now (text .entry)) (p .id)) xs m) r (now (words .entry)) (now (numbers .entry)) (now (words .exit)) (now (numbers .exit))) ⌝ }
 {
     let id = p.id;
     let count = p.count;
     let n = s.patterns;
     let k = s.multipliers;
-    let found = table_rows::find_at(text, words, Kind::Patterns, n, id);
+    let found = table_find::find_at(text, words, Kind::Patterns, n, id);
     if table_rows::MULTIPLIERS_MOST < k + count {
         return Kept::Refused(Reason::NoRoom);
     }
@@ -109,7 +114,7 @@ fn store_pattern(
         }
         Found::Nowhere => {
             if n < table_rows::PATTERNS_MOST {
-                put_id(
+                table_rows::put_id(
                     text,
                     id,
                     n,

@@ -22,7 +22,7 @@ use Rattle.scope.specs.Layout.{nodesAt, nodesWidth, nodePlaced, nodeNumbersAt, 
 use Rattle.table_rows.specs.Holding.{NodeFine, Holds, After, isJunction}
 use Rattle.table_rows.specs.declared.Kept.the-variants.{Stored, Refused}
 use Rattle.table_rows.proofs.HoldLaws.{each-at, change-node, change-node-numbers, same-count-nodes}
-use Rattle.table_rows.proofs.LookLaws.{found-below}
+use Rattle.table_find.proofs.LookLaws.{found-below}
 use Rattle.table_rows.proofs.ReadLaws.{node-count}
 
 -- ---- the node that changes
@@ -92,7 +92,8 @@ module _ {text : List ℕ} {m : Network} {s : Counts} {w : List ℕ} {f : List F
     unfolding setEmitter
     emitter-set x t ef = rw q (emits x (getD (m .nodes) i noNode .kind) refl t ef)
 
-    pub place-set : {w1 : List ℕ} {f1 : List Float} (p : Place) → w1 ≡ splice w (nodesAt + i * nodesWidth + nodePlaced) (1 ∷ []) → f1 ≡ splice f (nodeNumbersAt + i * nodeNumbersWidth + nodeX) (p .x ∷ p .y ∷ [])
+    pub place-set : {w1 : List ℕ} {f1 : List Float} (p : Place) → w1 ≡ splice w (nodesAt + i * nodesWidth + nodePlaced) (1 ∷ [])
+        → f1 ≡ splice f (nodeNumbersAt + i * nodeNumbersWidth + nodeX) (p .x ∷ p .y ∷ [])
         → After text (setPlace (nameIn text id) p m) (Stored s) w f w1 f1
     unfolding setPlace
     place-set p ew ef =

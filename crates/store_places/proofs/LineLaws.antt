@@ -6,9 +6,9 @@ use lib.ListN.{take}
 use Rattle.scope.specs.Values.{Read, good}
 use Rattle.scope.specs.Nodes.{EmitterFields}
 use Rattle.parse_fields.proofs.TextLaws.{fits-text, name-text}
-use Rattle.parse_places.specs.Lines.{emitterIn, EmitterAs}
-use Rattle.parse_places.specs.declared.EmitterRead.{EmitterRead}
-use Rattle.parse_places.specs.declared.EmitterRead.the-variants.{Emitter, NoEmitter}
+use Rattle.parse_pairs.specs.Lines.{emitterIn, EmitterAs}
+use Rattle.parse_pairs.specs.declared.EmitterRead.{EmitterRead}
+use Rattle.parse_pairs.specs.declared.EmitterRead.the-variants.{Emitter, NoEmitter}
 
 module _ (text : List ℕ) (end : ℕ) where
   emitter-text : (o : Read EmitterFields) (r : EmitterRead) → EmitterAs (take end text) o r → EmitterAs text o r

@@ -1,14 +1,14 @@
-// Stores what a line of EMITTERS says, as placelines reads it, or of COORDINATES, as parse_fields::take_pair does: the node is looked up and changed in its place.
+// Stores what a line of EMITTERS says, as parse_pairs reads it, or of COORDINATES, as parse_pairs::read_pair does: the node is looked up and changed in its place.
 ghost use Prim.Native.Nat.{_≤_};
 ghost use lib.ListN.{length, take};
 ghost use Rattle.leaf_fields.specs.Fields.{fieldsAt, nameIn};
 ghost use Rattle.scope.specs.Records.{Network};
 ghost use Rattle.scope.specs.Nodes.{setEmitter, setPlace, emitterStep, coordinatesStep};
 ghost use Rattle.table_rows.specs.Holding.{Holds, Sound, After};
-use parse_fields::PairLine;
-use parse_fields::PairRead;
-use parse_places::EmitterLine;
-use parse_places::EmitterRead;
+use parse_pairs::EmitterLine;
+use parse_pairs::EmitterRead;
+use parse_pairs::PairLine;
+use parse_pairs::PairRead;
 use scope::Counts;
 use scope::Found;
 use scope::Reason;
@@ -28,11 +28,11 @@ fn store_emitter(
     ensures { λ r. ⌜ ((m : Network) → Holds (now (text .entry)) m s (now (words .entry)) (now (numbers .entry))
         → After (now (text .entry)) (setEmitter (nameIn (now (text .entry)) (e .id)) (e .coefficient) m) r (now (words .entry)) (now (numbers .entry)) (now (words .exit)) (now (numbers .exit))) ⌝ }
 {
-    let found = table_rows::node_named(text, words, s.nodes, e.id);
+    let found = table_find::node_named(text, words, s.nodes, e.id);
     let Found::At(i) = found else {
         return Kept::Refused(Reason::NotFound);
     };
-    if table_rows::is_junction(words, i) {
+    if table_find::is_junction(words, i) {
         table_rows::paste_numbers(
             numbers,
             table_rows::NODE_NUMBERS_AT
@@ -55,9 +55,10 @@ fn store_coordinates(
 ) -> Kept
     requires { ⌜ Sound (now text) s (now words) (now numbers) ⌝ }
     ensures { λ r. ⌜ ((m : Network) → Holds (now (text .entry)) m s (now (words .entry)) (now (numbers .entry))
-        → After (now (text .entry)) (setPlace (nameIn (now (text .entry)) (p .id)) (record { x = p .x; y = p .y }) m) r (now (words .entry)) (now (numbers .entry)) (now (words .exit)) (now (numbers .exit))) ⌝ }
+        → After (now (text .entry)) (setPlace (nameIn (now (text .entry)) (p .id)) (record { x = p .x; y = p .y }) m) r (now (words .entry))
+        (now (numbers .entry)) (now (words .exit)) (now (numbers .exit))) ⌝ }
 {
-    let found = table_rows::node_named(text, words, s.nodes, p.id);
+    let found = table_find::node_named(text, words, s.nodes, p.id);
     let Found::At(i) = found else {
         return Kept::Refused(Reason::NotFound);
     };
@@ -89,7 +90,7 @@ pub fn emitter_line(
     ensures { λ r. ⌜ ((m : Network) → Holds (now (text .entry)) m s (now (words .entry)) (now (numbers .entry))
         → After (now (text .entry)) (emitterStep (fieldsAt (take end (now (text .entry))) at) m) r (now (words .entry)) (now (numbers .entry)) (now (words .exit)) (now (numbers .exit))) ⌝ }
 {
-    let read = parse_places::read_emitter(&text[..end], at);
+    let read = parse_pairs::read_emitter(&text[..end], at);
     match read {
         EmitterRead::Emitter(e) => store_emitter(text, e, s, words, numbers),
         EmitterRead::NoEmitter(why) => Kept::Refused(why),
@@ -109,7 +110,7 @@ pub fn coordinates_line(
     ensures { λ r. ⌜ ((m : Network) → Holds (now (text .entry)) m s (now (words .entry)) (now (numbers .entry))
         → After (now (text .entry)) (coordinatesStep (fieldsAt (take end (now (text .entry))) at) m) r (now (words .entry)) (now (numbers .entry)) (now (words .exit)) (now (numbers .exit))) ⌝ }
 {
-    let read = parse_fields::take_pair(&text[..end], at);
+    let read = parse_pairs::read_pair(&text[..end], at);
     match read {
         PairRead::Pair(p) => store_coordinates(text, p, s, words, numbers),
         PairRead::NoPair(why) => Kept::Refused(why),

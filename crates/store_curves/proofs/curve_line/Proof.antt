@@ -6,38 +6,34 @@ use lib.Seq.{length-take-le}
 use Rattle.leaf_fields.specs.Fields.{fieldsAt, Fits}
 use Rattle.scope.specs.Values.{good, bad, pairOf}
 use Rattle.scope.specs.Series.{curveStep}
-use Rattle.parse_fields.specs.Taking.{pairIn}
-use Rattle.parse_fields.proofs.TextLaws.{pair-told}
+use Rattle.parse_pairs.specs.Lines.{pairIn}
+use Rattle.parse_pairs.proofs.TextLaws.{pair-told}
 use borrow.Author.Needs.{needs}
 use Rattle.store_curves.proofs.curve_line.Statement.{statement}
 use Rattle.store_curves.proofs.curve_line.Tie as tie
 
-is-read : (c : tie.After-known-told) → (pairOf (fieldsAt (take (c .before .before .before .before .before .before .before .before .args .end) (now (c .before .before .before .before .before .before .before .before .args .text))) (c .before .before .before .before .before .before .before .before .args .at)) ≡ good (pairIn (now (c .before .before .before .before .before .before .before .before .args .text)) (c .before .read .given .0 .0))) × Fits (now (c .before .before .before .before .before .before .before .before .args .text)) (c .before .read .given .0 .0 .id)
-is-read c = pair-told (now (c .before .before .before .before .before .before .before .before .args .text)) (c .before .before .before .before .before .before .before .before .args .end) _ (c .before .read .given .1) (c .before .before .before .take-pair .ensures)
+is-read : (c : tie.After-known-told) →
+    let c8 = c .before .before .before .before .before .before .before .before in
+    (pairOf (fieldsAt (take (c8 .args .end) (now (c8 .args .text))) (c8 .args .at)) ≡ good (pairIn (now (c8 .args .text)) (c .before .read .given .0 .0)))
+    × Fits (now (c8 .args .text)) (c .before .read .given .0 .0 .id)
+is-read c =
+    let c3 = c .before .before .before in
+    let c8 = c3 .before .before .before .before .before in
+    pair-told (now (c8 .args .text)) (c8 .args .end) _ (c .before .read .given .1) (c3 .read-pair .ensures)
 
-no-read : (c : tie.After-known-told2) → pairOf (fieldsAt (take (c .before .before .before .before .before .before .before .before .args .end) (now (c .before .before .before .before .before .before .before .before .args .text))) (c .before .before .before .before .before .before .before .before .args .at)) ≡ bad (c .before .read2 .given .0 .0)
-no-read c = pair-told (now (c .before .before .before .before .before .before .before .before .args .text)) (c .before .before .before .before .before .before .before .before .args .end) _ (c .before .read2 .given .1) (c .before .before .before .take-pair .ensures)
+no-read : (c : tie.After-known-told2) →
+    let c8 = c .before .before .before .before .before .before .before .before in
+    pairOf (fieldsAt (take (c8 .args .end) (now (c8 .args .text))) (c8 .args .at)) ≡ bad (c .before .read2 .given .0 .0)
+no-read c =
+    let c3 = c .before .before .before in
+    let c8 = c3 .before .before .before .before .before in
+    pair-told (now (c8 .args .text)) (c8 .args .end) _ (c .before .read2 .given .1) (c3 .read-pair .ensures)
 
-slice-aggregate-take-pair : tie.Need-slice-aggregate-take-pair
-slice-aggregate-take-pair c = sym (length-take-le (c .before .before .before .before .args .end) (now (c .before .before .before .before .args .text)) (c .before .before .before .before .pre .1))
-
-take-pair-requires : tie.Need-take-pair-requires
-take-pair-requires c κs = search needs
-
-enum-known-read : tie.Need-enum-known-read
-enum-known-read c = search needs
+slice-aggregate-read-pair : tie.Need-slice-aggregate-read-pair
+slice-aggregate-read-pair c = sym (length-take-le (c .before .before .before .before .args .end) (now (c .before .before .before .before .args .text)) (c .before .before .before .before .pre .1))
 
 store-point-requires : tie.Need-store-point-requires
 store-point-requires c κs = (c .before .before .before .before .before .before .before .before .before .before .pre .0, is-read (c .before .before) .1)
-
-enum-known-read-2 : tie.Need-enum-known-read-2
-enum-known-read-2 c = search needs
-
-same-length : tie.Need-same-length
-same-length c = search needs
-
-same-length-2 : tie.Need-same-length-2
-same-length-2 c = search needs
 
 returns : tie.Need-returns
 unfolding curveStep
@@ -51,12 +47,12 @@ pub curve-line-spec : {M : Type 1} → statement M
 curve-line-spec =
     tie.close
     (tie.spec
-    slice-aggregate-take-pair
-    take-pair-requires
-    enum-known-read
+    slice-aggregate-read-pair
+    (λ c κs. search needs)
+    (λ c. search needs)
     store-point-requires
-    enum-known-read-2
-    same-length
-    same-length-2
+    (λ c. search needs)
+    (λ c. search needs)
+    (λ c. search needs)
     returns
     returns-2)

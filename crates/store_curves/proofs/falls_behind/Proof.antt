@@ -27,34 +27,60 @@ mul-if1 : tie.Need-mul-if1 Inv-loop μ-loop
 mul-if1 c = omega (arith, c .loop-test .taken, c .before .loop .inv .upto, c .before .before .pre .0, c .before .before .pre .1, c .before .before .pre .2)
 
 shared-slice-read-if1 : tie.Need-shared-slice-read-if1 Inv-loop μ-loop
-shared-slice-read-if1 c = omega (arith, c .before .loop-test .taken, c .before .before .loop .inv .upto, c .before .before .before .pre .0, c .before .before .before .pre .1, c .before .before .before .pre .2)
+shared-slice-read-if1 c =
+    let c3 = c .before .before .before in
+    omega (arith, c .before .loop-test .taken, c .before .before .loop .inv .upto, c3 .pre .0, c3 .pre .1, c3 .pre .2)
 
 mul-row : tie.Need-mul-row Inv-loop μ-loop
-mul-row c = omega (arith, c .before .before .loop-test .taken, c .before .before .before .loop .inv .upto, c .before .before .before .before .pre .0, c .before .before .before .before .pre .1, c .before .before .before .before .pre .2)
+mul-row c =
+    let c3 = c .before .before .before in
+    let c4 = c3 .before in
+    omega (arith, c .before .before .loop-test .taken, c3 .loop .inv .upto, c4 .pre .0, c4 .pre .1, c4 .pre .2)
 
 add-row : tie.Need-add-row Inv-loop μ-loop
-add-row c = omega (arith, c .before .before .loop-test .taken, c .before .before .before .loop .inv .upto, c .before .before .before .before .pre .0, c .before .before .before .before .pre .1, c .before .before .before .before .pre .2)
+add-row c =
+    let c3 = c .before .before .before in
+    let c4 = c3 .before in
+    omega (arith, c .before .before .loop-test .taken, c3 .loop .inv .upto, c4 .pre .0, c4 .pre .1, c4 .pre .2)
 
 mul-result : tie.Need-mul-result Inv-loop μ-loop
-mul-result c = omega (arith, c .before .before .loop-test .taken, c .before .before .before .loop .inv .upto, c .before .before .before .before .pre .0, c .before .before .before .before .pre .1, c .before .before .before .before .pre .2)
+mul-result c =
+    let c3 = c .before .before .before in
+    let c4 = c3 .before in
+    omega (arith, c .before .before .loop-test .taken, c3 .loop .inv .upto, c4 .pre .0, c4 .pre .1, c4 .pre .2)
 
 add-result : tie.Need-add-result Inv-loop μ-loop
-add-result c = omega (arith, c .before .before .loop-test .taken, c .before .before .before .loop .inv .upto, c .before .before .before .before .pre .0, c .before .before .before .before .pre .1, c .before .before .before .before .pre .2)
+add-result c =
+    let c3 = c .before .before .before in
+    let c4 = c3 .before in
+    omega (arith, c .before .before .loop-test .taken, c3 .loop .inv .upto, c4 .pre .0, c4 .pre .1, c4 .pre .2)
 
 shared-slice-read-result : tie.Need-shared-slice-read-result Inv-loop μ-loop
-shared-slice-read-result c = omega (arith, c .before .before .before .loop-test .taken, c .before .before .before .before .loop .inv .upto, c .before .before .before .before .before .pre .0, c .before .before .before .before .before .pre .1, c .before .before .before .before .before .pre .2)
+shared-slice-read-result c =
+    let c3 = c .before .before .before in
+    let c5 = c3 .before .before in
+    omega (arith, c3 .loop-test .taken, c3 .before .loop .inv .upto, c5 .pre .0, c5 .pre .1, c5 .pre .2)
 
 returns : tie.Need-returns Inv-loop μ-loop
-returns c = λ text m hw hf e. found-sought (now (c .before .before .before .before .before .args .words)) (now (c .before .before .before .before .before .args .numbers)) (c .before .before .before .before .before .args .points) (c .before .before .before .before .before .args .curve) (c .before .before .before .before .loop .inv) (c .before .before .before .loop-test .taken) nan (c .before .before .before .before .before .args .x) (c .before .if1 .taken) text m hw hf e
+returns c =
+    let c3 = c .before .before .before in
+    let c5 = c3 .before .before in
+    λ text m hw hf e. found-sought (now (c5 .args .words)) (now (c5 .args .numbers)) (c5 .args .points) (c5 .args .curve) (c3 .before .loop .inv)
+    (c3 .loop-test .taken) nan (c5 .args .x) (c .before .if1 .taken) text m hw hf e
 
 loop-less : tie.Need-loop-less Inv-loop μ-loop
 loop-less c = omega (arith, c .before .before .loop-test .taken)
 
 loop-again : tie.Need-loop-again Inv-loop μ-loop
-loop-again c = next-sought (now (c .before .before .before .before .args .words)) (now (c .before .before .before .before .args .numbers)) (c .before .before .before .before .args .points) (c .before .before .before .before .args .curve) (c .before .before .before .loop .inv) (c .before .before .loop-test .taken) (c .if1 .left)
+loop-again c =
+    let c3 = c .before .before .before in
+    let c4 = c3 .before in
+    next-sought (now (c4 .args .words)) (now (c4 .args .numbers)) (c4 .args .points) (c4 .args .curve) (c3 .loop .inv) (c .before .before .loop-test .taken) (c .if1 .left)
 
 returns-2 : tie.Need-returns-2 Inv-loop μ-loop
-returns-2 c = λ text m hw hf e. none-sought (now (c .before .before .args .words)) (now (c .before .before .args .numbers)) (c .before .before .args .points) (c .before .before .args .curve) (c .before .loop .inv) (c .loop-test .left) (c .before .before .args .x) text m hw hf e
+returns-2 c =
+    let c2 = c .before .before in
+    λ text m hw hf e. none-sought (now (c2 .args .words)) (now (c2 .args .numbers)) (c2 .args .points) (c2 .args .curve) (c .before .loop .inv) (c .loop-test .left) (c2 .args .x) text m hw hf e
 
 pub falls-behind-spec : {M : Type 1} → statement M
 falls-behind-spec =

@@ -8,24 +8,19 @@ use borrow.Author.Needs.{needs}
 use Rattle.store_demands.proofs.own_demand.Statement.{statement}
 use Rattle.store_demands.proofs.own_demand.Tie as tie
 
-add-first-in-slot : tie.Need-add-first-in-slot
-add-first-in-slot c = search needs
-
-first-in-slot-requires : tie.Need-first-in-slot-requires
-first-in-slot-requires c κs = search needs
-
-is-own-requires : tie.Need-is-own-requires
-is-own-requires c κs = search needs
-
 returns : tie.Need-returns
-returns c = λ text m hw e.
-    let inside : c .before .before .before .first-in-slot .result < length (m .demands) = omega (arith, c .before .before .if1 .taken, e) in
-    own-found hw (c .before .before .before .before .before .args .node) (c .before .before .before .first-in-slot .result) (λ p q. c .before .before .before .first-in-slot .ensures .2 p (omega (arith, q, e))) inside
+returns c =
+    let c3 = c .before .before .before in
+    λ text m hw e.
+    let inside : c3 .first-in-slot .result < length (m .demands) = omega (arith, c .before .before .if1 .taken, e) in
+    own-found hw (c3 .before .before .args .node) (c3 .first-in-slot .result) (λ p q. c3 .first-in-slot .ensures .2 p (omega (arith, q, e))) inside
     (sym (c .if2 .taken) ∙ c .before .is-own .ensures text m hw inside)
 
 returns-2 : tie.Need-returns-2
-returns-2 c = λ text m hw e.
-    first-not-own hw (c .before .before .before .before .before .args .node) (c .before .before .before .first-in-slot .result) (λ p q. c .before .before .before .first-in-slot .ensures .2 p (omega (arith, q, e)))
+returns-2 c =
+    let c3 = c .before .before .before in
+    λ text m hw e.
+    first-not-own hw (c3 .before .before .args .node) (c3 .first-in-slot .result) (λ p q. c3 .first-in-slot .ensures .2 p (omega (arith, q, e)))
     (sym (c .if2 .left) ∙ c .before .is-own .ensures text m hw (omega (arith, c .before .before .if1 .taken, e)))
 
 returns-3 : tie.Need-returns-3
@@ -35,4 +30,4 @@ returns-3 c = λ text m hw e.
 pub own-demand-spec : {M : Type 1} → statement M
 own-demand-spec =
     tie.close
-    (tie.spec add-first-in-slot first-in-slot-requires is-own-requires returns returns-2 returns-3)
+    (tie.spec (λ c. search needs) (λ c κs. search needs) (λ c κs. search needs) returns returns-2 returns-3)

@@ -1,3 +1,4 @@
+-- `store_nodes::put_node` meets its contract. Assumes nothing.
 use denote.Ref.{now}
 use mathlib.Core.Path.{ap, _∙_}
 use mathlib.Core.List.{List}
@@ -13,51 +14,6 @@ use borrow.Author.Needs.{needs}
 use Rattle.store_nodes.proofs.put_node.Statement.{statement}
 use Rattle.store_nodes.proofs.put_node.Tie as tie
 
-name-words-requires : tie.Need-name-words-requires
-name-words-requires c κs = search needs
-
-mul-paste-words : tie.Need-mul-paste-words
-mul-paste-words c = search needs
-
-add-paste-words : tie.Need-add-paste-words
-add-paste-words c = search needs
-
-array-read-slot-of : tie.Need-array-read-slot-of
-array-read-slot-of c = search needs
-
-array-read-t23 : tie.Need-array-read-t23
-array-read-t23 c = search needs
-
-array-read-t26 : tie.Need-array-read-t26
-array-read-t26 c = search needs
-
-array-read-t29 : tie.Need-array-read-t29
-array-read-t29 c = search needs
-
-array-read-t32 : tie.Need-array-read-t32
-array-read-t32 c = search needs
-
-slice-aggregate-paste-words : tie.Need-slice-aggregate-paste-words
-slice-aggregate-paste-words c = search needs
-
-paste-words-requires : tie.Need-paste-words-requires
-paste-words-requires c κs = search needs
-
-array-read-slot-of-2 : tie.Need-array-read-slot-of-2
-array-read-slot-of-2 c = search needs
-
-slot-of-requires : tie.Need-slot-of-requires
-slot-of-requires c κs = search needs
-
-add-mark : tie.Need-add-mark
-add-mark c = search needs
-
-mark-requires : tie.Need-mark-requires
-mark-requires c κs = search needs
-
-same-length : tie.Need-same-length
-same-length c = search needs
-
 returns : tie.Need-returns
 returns c = λ id e.
     let a = c .before .before .before .before .before .before .before .before .before .before .before .before .before .args in
@@ -71,19 +27,19 @@ pub put-node-spec : {M : Type 1} → statement M
 put-node-spec =
     tie.close
     (tie.spec
-    name-words-requires
-    mul-paste-words
-    add-paste-words
-    array-read-slot-of
-    array-read-t23
-    array-read-t26
-    array-read-t29
-    array-read-t32
-    slice-aggregate-paste-words
-    paste-words-requires
-    array-read-slot-of-2
-    slot-of-requires
-    add-mark
-    mark-requires
-    same-length
+    (λ c κs. search needs)
+    (λ c. search needs)
+    (λ c. search needs)
+    (λ c. search needs)
+    (λ c. search needs)
+    (λ c. search needs)
+    (λ c. search needs)
+    (λ c. search needs)
+    (λ c. search needs)
+    (λ c κs. search needs)
+    (λ c. search needs)
+    (λ c κs. search needs)
+    (λ c. search needs)
+    (λ c κs. search needs)
+    (λ c. search needs)
     returns)

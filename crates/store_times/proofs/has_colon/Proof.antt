@@ -24,7 +24,9 @@ shared-slice-read-if1 : tie.Need-shared-slice-read-if1 Inv-loop μ-loop
 shared-slice-read-if1 c = omega arith
 
 returns : tie.Need-returns Inv-loop μ-loop
-returns c = colon-here (now (c .before .before .before .before .args .s)) (c .before .before .before .loop .i) (c .before .before .before .loop .inv) (c .before .before .loop-test .taken) (c .if1 .taken)
+returns c =
+    let c3 = c .before .before .before in
+    colon-here (now (c3 .before .args .s)) (c3 .loop .i) (c3 .loop .inv) (c .before .before .loop-test .taken) (c .if1 .taken)
 
 add-i : tie.Need-add-i Inv-loop μ-loop
 add-i c = omega arith
@@ -33,7 +35,9 @@ loop-less : tie.Need-loop-less Inv-loop μ-loop
 loop-less c = omega arith
 
 loop-again : tie.Need-loop-again Inv-loop μ-loop
-loop-again c = colon-later (now (c .before .before .before .before .args .s)) (c .before .before .before .loop .i) (c .before .before .before .loop .inv) (c .before .before .loop-test .taken) (c .if1 .left)
+loop-again c =
+    let c3 = c .before .before .before in
+    colon-later (now (c3 .before .args .s)) (c3 .loop .i) (c3 .loop .inv) (c .before .before .loop-test .taken) (c .if1 .left)
 
 returns-2 : tie.Need-returns-2 Inv-loop μ-loop
 returns-2 c = colon-nowhere (now (c .before .before .args .s)) (c .before .loop .i) (c .before .loop .inv) (c .loop-test .left)

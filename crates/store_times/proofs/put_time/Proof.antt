@@ -11,32 +11,16 @@ use Rattle.store_times.proofs.put_time.Tie as tie
 kept : (c : tie.After-known-told) → placeOf (c .before .before .before .before .before .args .option) ≡ At (c .before .place .given .0 .0)
 kept c = sym (c .before .before .before .place-of .ensures) ∙ c .before .place .given .1
 
-place-of-requires : tie.Need-place-of-requires
-place-of-requires c κs = search needs
-
-enum-known-place : tie.Need-enum-known-place
-enum-known-place c = search needs
-
-enum-told : tie.Need-enum-told
-enum-told c = search needs
-
-returns : tie.Need-returns
-returns c = search needs
-
 mul-paste-words : tie.Need-mul-paste-words
 mul-paste-words c = omega (arith, kept-below (c .before .before .before .before .before .before .args .option) (kept (c .before)))
 
 add-paste-words : tie.Need-add-paste-words
 add-paste-words c = omega (arith, kept-below (c .before .before .before .before .before .before .args .option) (kept (c .before)))
 
-slice-aggregate-paste-words : tie.Need-slice-aggregate-paste-words
-slice-aggregate-paste-words c = search needs
-
 paste-words-requires : tie.Need-paste-words-requires
-paste-words-requires c κs = omega (arith, kept-below (c .before .before .before .before .before .before .before .args .option) (kept (c .before .before)), c .before .before .before .before .before .before .before .pre)
-
-same-length : tie.Need-same-length
-same-length c = search needs
+paste-words-requires c κs =
+    let c7 = c .before .before .before .before .before .before .before in
+    omega (arith, kept-below (c7 .args .option) (kept (c .before .before)), c7 .pre)
 
 returns-2 : tie.Need-returns-2
 returns-2 c = rw (kept (c .before .before .before .before .before)) (c .before .before .paste-words .ensures)
@@ -45,13 +29,13 @@ pub put-time-spec : {M : Type 1} → statement M
 put-time-spec =
     tie.close
     (tie.spec
-    place-of-requires
-    enum-known-place
-    enum-told
-    returns
+    (λ c κs. search needs)
+    (λ c. search needs)
+    (λ c. search needs)
+    (λ c. search needs)
     mul-paste-words
     add-paste-words
-    slice-aggregate-paste-words
+    (λ c. search needs)
     paste-words-requires
-    same-length
+    (λ c. search needs)
     returns-2)

@@ -8,50 +8,35 @@ use borrow.Author.Needs.{needs}
 use Rattle.store_times.proofs.read_seconds.Statement.{statement}
 use Rattle.store_times.proofs.read_seconds.Tie as tie
 
-field : (c : tie.After-known-told) → (fieldsAt (now (c .before .before .before .before .before .args .l)) (c .before .before .before .before .before .args .at) ≡ nameIn (now (c .before .before .before .before .before .args .l)) (c .before .f .given .0 .0) ∷ fieldsAt (now (c .before .before .before .before .before .args .l)) (c .before .f .given .0 .0 .end)) × Fits (now (c .before .before .before .before .before .args .l)) (c .before .f .given .0 .0)
+field : (c : tie.After-known-told) →
+    let c5 = c .before .before .before .before .before in
+    (fieldsAt (now (c5 .args .l)) (c5 .args .at)
+    ≡ nameIn (now (c5 .args .l)) (c .before .f .given .0 .0) ∷ fieldsAt (now (c5 .args .l)) (c .before .f .given .0 .0 .end)) × Fits (now (c5 .args .l)) (c .before .f .given .0 .0)
 field c = c .before .before .before .next-field .ensures .taken _ (c .before .f .given .1)
-
-next-field-requires : tie.Need-next-field-requires
-next-field-requires c κs = search needs
-
-enum-known-f : tie.Need-enum-known-f
-enum-known-f c = search needs
-
-enum-told : tie.Need-enum-told
-enum-told c = search needs
 
 returns : tie.Need-returns
 returns c = rw (c .before .before .next-field .ensures .nothing (c .enum-told .given .1))
 
-slice-aggregate-field-or : tie.Need-slice-aggregate-field-or
-slice-aggregate-field-or c = search needs
-
-field-or-requires : tie.Need-field-or-requires
-field-or-requires c κs = search needs
-
-letters-of-requires : tie.Need-letters-of-requires
-letters-of-requires c κs = search needs
-
-read-time-requires : tie.Need-read-time-requires
-read-time-requires c κs = search needs
-
-time-from-requires : tie.Need-time-from-requires
-time-from-requires c κs = search needs
-
 returns-2 : tie.Need-returns-2
-returns-2 c = rw (field (c .before .before .before .before .before) .0) (value-read (c .before .before .before .before .before .before .before .before .before .before .args .option) (nameIn (now (c .before .before .before .before .before .before .before .before .before .before .args .l)) (c .before .before .before .before .before .before .f .given .0 .0)) (fieldsAt (now (c .before .before .before .before .before .before .before .before .before .before .args .l)) (c .before .before .before .before .before .before .f .given .0 .0 .end)) _ _ (c .before .read-time .result) (c .time-from .result) (c .before .before .letters-of .ensures) (c .before .before .before .field-or .ensures) (c .before .read-time .ensures .0) (c .time-from .ensures))
+returns-2 c =
+    let c3 = c .before .before .before in
+    let c6 = c3 .before .before .before in
+    let c10 = c6 .before .before .before .before in
+    rw (field (c3 .before .before) .0) (value-read (c10 .args .option) (nameIn (now (c10 .args .l)) (c6 .f .given .0 .0))
+    (fieldsAt (now (c10 .args .l)) (c6 .f .given .0 .0 .end)) _ _ (c .before .read-time .result) (c .time-from .result) (c .before .before .letters-of .ensures)
+    (c3 .field-or .ensures) (c .before .read-time .ensures .0) (c .time-from .ensures))
 
 pub read-seconds-spec : {M : Type 1} → statement M
 read-seconds-spec =
     tie.close
     (tie.spec
-    next-field-requires
-    enum-known-f
-    enum-told
+    (λ c κs. search needs)
+    (λ c. search needs)
+    (λ c. search needs)
     returns
-    slice-aggregate-field-or
-    field-or-requires
-    letters-of-requires
-    read-time-requires
-    time-from-requires
+    (λ c. search needs)
+    (λ c κs. search needs)
+    (λ c κs. search needs)
+    (λ c κs. search needs)
+    (λ c κs. search needs)
     returns-2)

@@ -9,51 +9,40 @@ use borrow.Author.Needs.{needs}
 use Rattle.store_times.proofs.read_times.Statement.{statement}
 use Rattle.store_times.proofs.read_times.Tie as tie
 
-field : (c : tie.After-known-told) → (fieldsAt (now (c .before .before .before .before .before .args .l)) (c .before .before .before .before .before .args .at) ≡ nameIn (now (c .before .before .before .before .before .args .l)) (c .before .f .given .0 .0) ∷ fieldsAt (now (c .before .before .before .before .before .args .l)) (c .before .f .given .0 .0 .end)) × Fits (now (c .before .before .before .before .before .args .l)) (c .before .f .given .0 .0)
+field : (c : tie.After-known-told) →
+    let c5 = c .before .before .before .before .before in
+    (fieldsAt (now (c5 .args .l)) (c5 .args .at)
+    ≡ nameIn (now (c5 .args .l)) (c .before .f .given .0 .0) ∷ fieldsAt (now (c5 .args .l)) (c .before .f .given .0 .0 .end)) × Fits (now (c5 .args .l)) (c .before .f .given .0 .0)
 field c = c .before .before .before .next-field .ensures .taken _ (c .before .f .given .1)
-
-next-field-requires : tie.Need-next-field-requires
-next-field-requires c κs = search needs
-
-enum-known-f : tie.Need-enum-known-f
-enum-known-f c = search needs
-
-enum-told : tie.Need-enum-told
-enum-told c = search needs
 
 returns : tie.Need-returns
 unfolding timesOf
 returns c = rw (c .before .before .next-field .ensures .nothing (c .enum-told .given .1))
 
-letters-of-requires : tie.Need-letters-of-requires
-letters-of-requires c κs = search needs
-
-slice-aggregate-spells : tie.Need-slice-aggregate-spells
-slice-aggregate-spells c = search needs
-
-spells-requires : tie.Need-spells-requires
-spells-requires c κs = search needs
-
 returns-2 : tie.Need-returns-2
-returns-2 c = statistic (nameIn (now (c .before .before .before .before .before .before .before .before .before .args .l)) (c .before .before .before .before .before .f .given .0 .0)) _ _ (field (c .before .before .before .before) .0) _ (c .before .before .before .letters-of .ensures) (sym (c .before .spells .ensures) ∙ c .if1 .taken)
-
-read-option-requires : tie.Need-read-option-requires
-read-option-requires c κs = search needs
+returns-2 c =
+    let c3 = c .before .before .before in
+    let c9 = c3 .before .before .before .before .before .before in
+    statistic (nameIn (now (c9 .args .l)) (c3 .before .before .f .given .0 .0)) _ _ (field (c3 .before) .0) _ (c3 .letters-of .ensures) (sym (c .before .spells .ensures) ∙ c .if1 .taken)
 
 returns-3 : tie.Need-returns-3
-returns-3 c = other (nameIn (now (c .before .before .before .before .before .before .before .before .before .before .args .l)) (c .before .before .before .before .before .before .f .given .0 .0)) _ _ (field (c .before .before .before .before .before) .0) _ (c .before .before .before .before .letters-of .ensures) (c .read-option .result) (sym (c .before .before .spells .ensures) ∙ c .before .if1 .left) (c .read-option .ensures)
+returns-3 c =
+    let c4 = c .before .before .before .before in
+    let c10 = c4 .before .before .before .before .before .before in
+    other (nameIn (now (c10 .args .l)) (c4 .before .before .f .given .0 .0)) _ _ (field (c4 .before) .0) _ (c4 .letters-of .ensures) (c .read-option .result)
+    (sym (c .before .before .spells .ensures) ∙ c .before .if1 .left) (c .read-option .ensures)
 
 pub read-times-spec : {M : Type 1} → statement M
 read-times-spec =
     tie.close
     (tie.spec
-    next-field-requires
-    enum-known-f
-    enum-told
+    (λ c κs. search needs)
+    (λ c. search needs)
+    (λ c. search needs)
     returns
-    letters-of-requires
-    slice-aggregate-spells
-    spells-requires
+    (λ c κs. search needs)
+    (λ c. search needs)
+    (λ c κs. search needs)
     returns-2
-    read-option-requires
+    (λ c κs. search needs)
     returns-3)

@@ -4,12 +4,6 @@ use borrow.Author.Needs.{needs}
 use Rattle.store_times.proofs.spell_two.Statement.{statement}
 use Rattle.store_times.proofs.spell_two.Tie as tie
 
-spells-requires : tie.Need-spells-requires
-spells-requires c κs = search needs
-
-spells-requires-2 : tie.Need-spells-requires-2
-spells-requires-2 c κs = search needs
-
 returns : tie.Need-returns
 returns c = rw (sym (c .before .before .spells .ensures) ∙ c .before .if1 .taken) (c .spells2 .ensures)
 
@@ -17,4 +11,4 @@ returns-2 : tie.Need-returns-2
 returns-2 c = rw (sym (c .before .spells .ensures) ∙ c .if1 .left)
 
 pub spell-two-spec : {M : Type 1} → statement M
-spell-two-spec = tie.close (tie.spec spells-requires spells-requires-2 returns returns-2)
+spell-two-spec = tie.close (tie.spec (λ c κs. search needs) (λ c κs. search needs) returns returns-2)

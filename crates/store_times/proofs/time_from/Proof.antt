@@ -3,18 +3,6 @@ use borrow.Author.Needs.{needs}
 use Rattle.store_times.proofs.time_from.Statement.{statement}
 use Rattle.store_times.proofs.time_from.Tie as tie
 
-enum-known-t : tie.Need-enum-known-t
-enum-known-t c = search needs
-
-enum-told : tie.Need-enum-told
-enum-told c = search needs
-
-enum-told-2 : tie.Need-enum-told-2
-enum-told-2 c = search needs
-
-enum-told-3 : tie.Need-enum-told-3
-enum-told-3 c = search needs
-
 returns : tie.Need-returns
 returns c = rw (c .before .t .given .1)
 
@@ -30,4 +18,4 @@ returns-4 c = rw (c .enum-told3 .given .1)
 pub time-from-spec : {M : Type 1} → statement M
 time-from-spec =
     tie.close
-    (tie.spec enum-known-t enum-told enum-told-2 enum-told-3 returns returns-2 returns-3 returns-4)
+    (tie.spec (λ c. search needs) (λ c. search needs) (λ c. search needs) (λ c. search needs) returns returns-2 returns-3 returns-4)
