@@ -55,7 +55,8 @@ demand-index : (d : Demand) (ps : List Name) → demandWords (resolvedDemand ps 
 demand-index d ps = go (d .node) (d .own) (d .base) (d .pattern) (d .index)
   where
     go : (a : ℕ) (b : Bool) (x : Float) (o : Option Name) (i : Option ℕ)
-        → demandWords (record { node = a; own = b; base = x; pattern = o; index = indexOf ps o }) ≡ splice (demandWords (record { node = a; own = b; base = x; pattern = o; index = i })) demandIndex (indexNo (indexOf ps o) ∷ [])
+        → demandWords (record { node = a; own = b; base = x; pattern = o; index = indexOf ps o })
+        ≡ splice (demandWords (record { node = a; own = b; base = x; pattern = o; index = i })) demandIndex (indexNo (indexOf ps o) ∷ [])
     go a b x none i = refl
     go a b x (some n) i = refl
 
@@ -64,7 +65,8 @@ module _ {text : List ℕ} {m : Network} {s : Counts} {w : List ℕ} {f : List F
     below-demands : k < length (m .demands)
     below-demands = omega (arith, count-demands h)
 
-    pub demand-name : nameWords (getD (m .demands) k noDemand .pattern) ≡ getD w (demandsAt + k * demandsWidth + demandName + namePlace) 0 ∷ getD w (demandsAt + k * demandsWidth + demandName + nameLength) 0 ∷ []
+    pub demand-name : nameWords (getD (m .demands) k noDemand .pattern)
+        ≡ getD w (demandsAt + k * demandsWidth + demandName + namePlace) 0 ∷ getD w (demandsAt + k * demandsWidth + demandName + nameLength) 0 ∷ []
     demand-name =
         let d : Demand = getD (m .demands) k noDemand in
         let p : demandsAt + k * demandsWidth + demandName + namePlace ≡ demandsAt + k * demandsWidth + (demandName + namePlace) = omega arith in
@@ -75,12 +77,14 @@ module _ {text : List ℕ} {m : Network} {s : Counts} {w : List ℕ} {f : List F
     pub demand-sits : SitsOr text (getD (m .demands) k noDemand .pattern)
     demand-sits = each-at (DemandFine text) (m .demands) k noDemand (h .words .known .demands .fine) below-demands
 
-    pub demand-set : (v : ℕ) → demandsAt + k * demandsWidth + demandIndex < length w → v ≡ indexNo (indexOf (m .patterns) (getD (m .demands) k noDemand .pattern)) → Holds text (demandResolved k m) s (set w (demandsAt + k * demandsWidth + demandIndex) v) f
+    pub demand-set : (v : ℕ) → demandsAt + k * demandsWidth + demandIndex < length w
+        → v ≡ indexNo (indexOf (m .patterns) (getD (m .demands) k noDemand .pattern)) → Holds text (demandResolved k m) s (set w (demandsAt + k * demandsWidth + demandIndex) v) f
     demand-set v room e =
         let d : Demand = getD (m .demands) k noDemand in
         let x : Demand = resolvedDemand (m .patterns) d in
         let q : demandWords x ≡ splice (demandWords d) demandIndex (v ∷ []) = rw e (demand-index d (m .patterns)) in
-        let h1 = change-demand-words h k noDemand x demandIndex (v ∷ []) below-demands demand-sits refl (λ own. own) (omega arith) q refl (set-splice w (demandsAt + k * demandsWidth + demandIndex) v room) in
+        let h1 = change-demand-words h k noDemand x demandIndex (v ∷ []) below-demands demand-sits refl (λ own. own) (omega arith) q refl
+        (set-splice w (demandsAt + k * demandsWidth + demandIndex) v room) in
         subst (λ (c : Counts). Holds text (demandResolved k m) c (set w (demandsAt + k * demandsWidth + demandIndex) v) f) (same-count-demands m k x ∙ sym (h .counts)) h1
 
 -- ---- a node
@@ -113,7 +117,9 @@ module _ (ps : List Name) (id : Name) (place : Option Place) where
   name-in (junction j) e = absurd (omega arith)
   name-in (reservoir r) e = go (r .pattern) (indexNo (r .index))
     where
-      go : (o : Option Name) (i : ℕ) → nameWords o ≡ getD (idWords id ++ (2 ∷ nameWords o ++ (i ∷ [])) ++ (placed place ∷ [])) (nodeName + namePlace) 0 ∷ getD (idWords id ++ (2 ∷ nameWords o ++ (i ∷ [])) ++ (placed place ∷ [])) (nodeName + nameLength) 0 ∷ []
+      go : (o : Option Name) (i : ℕ) → nameWords o
+          ≡ getD (idWords id ++ (2 ∷ nameWords o ++ (i ∷ [])) ++ (placed place ∷ [])) (nodeName + namePlace) 0
+          ∷ getD (idWords id ++ (2 ∷ nameWords o ++ (i ∷ [])) ++ (placed place ∷ [])) (nodeName + nameLength) 0 ∷ []
       go none i = refl
       go (some n) i = refl
   name-in (tank t) e = absurd (omega arith)
@@ -159,12 +165,14 @@ module _ {text : List ℕ} {m : Network} {s : Counts} {w : List ℕ} {f : List F
     pub node-sits : SitsOr text (patternIn (at .kind))
     node-sits = fine .1
 
-    pub node-set : (v : ℕ) → nodesAt + k * nodesWidth + nodeDetail < length w → v ≡ indexNo (indexOf (m .patterns) (patternIn (at .kind))) → Holds text (nodeResolved k m) s (set w (nodesAt + k * nodesWidth + nodeDetail) v) f
+    pub node-set : (v : ℕ) → nodesAt + k * nodesWidth + nodeDetail < length w → v ≡ indexNo (indexOf (m .patterns) (patternIn (at .kind)))
+        → Holds text (nodeResolved k m) s (set w (nodesAt + k * nodesWidth + nodeDetail) v) f
     node-set v room e =
         let x : Node = resolvedNode (m .patterns) at in
         let a : NodeFine text x = (fine .0, rw (pattern-resolved (m .patterns) (at .kind)) (fine .1)) in
         let q : nodeWords x ≡ splice (nodeWords at) nodeDetail (v ∷ []) = rw e (words-resolved (m .patterns) (at .id) (at .place) (at .kind) kind-two) in
-        let h1 = change-node-words h k noNode x nodeDetail (v ∷ []) below-nodes a refl (omega arith) q (numbers-resolved (m .patterns) (at .id) (at .place) (at .kind)) (set-splice w (nodesAt + k * nodesWidth + nodeDetail) v room) in
+        let h1 = change-node-words h k noNode x nodeDetail (v ∷ []) below-nodes a refl (omega arith) q
+        (numbers-resolved (m .patterns) (at .id) (at .place) (at .kind)) (set-splice w (nodesAt + k * nodesWidth + nodeDetail) v room) in
         subst (λ (c : Counts). Holds text (nodeResolved k m) c (set w (nodesAt + k * nodesWidth + nodeDetail) v) f) (same-count-nodes m k x ∙ sym (h .counts)) h1
 
 -- ---- records one after another: the first k are changed

@@ -17,13 +17,14 @@ use scope::Kind;
 // The place plus one of the pattern that a record names by these words; 0 where it names none, or there is none.
 fn pattern_index(text: &[u8], words: &[u64], patterns: usize, at: u64, long: u64) -> u64
     requires { ⌜ ((m : Network) × Words (now text) m (now words) × (patterns ≡ length (m .patterns))) ⌝ }
-    ensures { λ r. ⌜ ((m : Network) (o : Option Name) → Words (now (text .entry)) m (now (words .entry)) → patterns ≡ length (m .patterns) → SitsOr (now (text .entry)) o → nameWords o ≡ at ∷ long ∷ [] → r ≡ indexNo (indexOf (m .patterns) o)) ⌝ }
+    ensures { λ r. ⌜ ((m : Network) (o : Option Name) → Words (now (text .entry)) m (now (words .entry)) → patterns ≡ length (m .patterns)
+        → SitsOr (now (text .entry)) o → nameWords o ≡ at ∷ long ∷ [] → r ≡ indexNo (indexOf (m .patterns) o)) ⌝ }
 {
     if long == 0 {
         return 0;
     }
     let name = leaf_letters::cut(text, at as usize, long as usize);
-    table_rows::index_number(table_rows::find_named(text, words, Kind::Patterns, patterns, name))
+    table_rows::index_number(table_find::find_named(text, words, Kind::Patterns, patterns, name))
 }
 
 fn resolve_demand(text: &[u8], s: Counts, words: &mut [u64], k: usize)

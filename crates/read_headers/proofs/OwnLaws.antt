@@ -15,8 +15,7 @@ use Rattle.leaf_scans.specs.Lines.{chunks, joined, lineLen, startTrimmed, trimm
 use Rattle.leaf_letters.specs.Words.{same, begins}
 use Rattle.leaf_scans.specs.Scan.{spanLen}
 use Rattle.leaf_fields.specs.declared.Span.{Span}
-use Rattle.leaf_scans.specs.declared.LineKind.{LineKind}
-use Rattle.leaf_scans.specs.declared.LineKind.the-variants as kind
+use Rattle.leaf_scans.specs.Lines as kind
 use Rattle.leaf_fields.proofs.FieldLaws.{drop-take, part-take}
 use Rattle.leaf_scans.proofs.LineLaws.{end-le, end-more, body-is, body-long, chunks-at, trimmed-start, start-at, kind-some, kind-none}
 use Rattle.leaf_scans.proofs.TrimLaws.{begins-trimmed}
@@ -28,7 +27,7 @@ use Rattle.scope.specs.declared.Section.the-variants.{Junctions, Reservoirs, Ta
 use Rattle.scope.specs.Spelling.{wordRule}
 use Rattle.scope.specs.Sections.{sectionOf, isRules}
 use Rattle.scope.specs.Lines.{sortBy, sortOf, ruleFields}
-use Rattle.read_headers.specs.Own.{plainBy, ownFields, groupFields, OwnHere, OwnFrom, NextOwn}
+use Rattle.read_headers.specs.Own.{isData, plainBy, ownFields, groupFields, OwnHere, OwnFrom, NextOwn}
 use Rattle.read_headers.specs.declared.OwnLine.{OwnLine}
 use Rattle.read_headers.specs.declared.OwnLine.the-variants as own
 
@@ -36,7 +35,7 @@ use Rattle.read_headers.specs.declared.OwnLine.the-variants as own
 module _ (l : List ℕ) (at i : ℕ) (es : i ≡ startAt l at) where
   pub sort-nothing : length l ≤ i → L.empty ≡ sortOf (drop at l)
   unfolding sortOf sortBy
-  sort-nothing h = ap (λ (k : LineKind). sortBy k (trimmed (drop at l))) (kind-none l at i es h)
+  sort-nothing h = ap (λ (k : kind.LineKind). sortBy k (trimmed (drop at l))) (kind-none l at i es h)
 
   module _ (h : i < length l) where
     abbrev first : ℕ
@@ -52,7 +51,7 @@ module _ (l : List ℕ) (at i : ℕ) (es : i ≡ startAt l at) where
     same-trimmed : trimmed left ≡ trimmed (drop at l)
     same-trimmed = ap trimmed left-is ∙ trimmed-start (drop at l)
 
-    sort-is : (k : LineKind) → k ≡ kindBy (first ∷ []) → sortBy k (trimmed left) ≡ sortOf (drop at l)
+    sort-is : (k : kind.LineKind) → k ≡ kindBy (first ∷ []) → sortBy k (trimmed left) ≡ sortOf (drop at l)
     unfolding sortOf
     sort-is k ek = rw (ek ∙ kind-some l at i es h, same-trimmed)
 
@@ -61,20 +60,20 @@ module _ (l : List ℕ) (at i : ℕ) (es : i ≡ startAt l at) where
     unfolding spanLen classOf
     begins-rule = ap (λ (x : List ℕ). begins x wordRule) left-is ∙ begins-trimmed (drop at l) wordRule refl ∙ sym (ap (λ (x : List ℕ). begins x wordRule) same-trimmed)
 
-    sort-plain : kind.Other ≡ kindBy (first ∷ []) → sortBy kind.Other left ≡ sortOf (drop at l)
+    sort-plain : kind.other ≡ kindBy (first ∷ []) → sortBy kind.other left ≡ sortOf (drop at l)
     unfolding sortBy
-    sort-plain ek = ap (λ (t : Bool). cond t L.start L.other) begins-rule ∙ sort-is kind.Other ek
+    sort-plain ek = ap (λ (t : Bool). cond t L.start L.other) begins-rule ∙ sort-is kind.other ek
 
     -- by that byte
     pub sort-blank : first ≡ 59 → L.empty ≡ sortOf (drop at l)
     unfolding sortBy
-    sort-blank e = sort-is kind.Blank (rw e)
+    sort-blank e = sort-is kind.blank (rw e)
 
     pub sort-header : first ≡ 91 → (w : List ℕ) → w ≡ trimmed left → (s : Section) → s ≡ sectionOf w → L.heading s ≡ sortOf (drop at l)
     unfolding sortBy
-    sort-header e w ew s q = ap L.heading (q ∙ ap sectionOf ew) ∙ sort-is kind.Header (rw e)
+    sort-header e w ew s q = ap L.heading (q ∙ ap sectionOf ew) ∙ sort-is kind.header (rw e)
 
-    pub sort-rule : first ≡ 82 → (k : L.Sort Section) → k ≡ sortBy kind.Other left → k ≡ sortOf (drop at l)
+    pub sort-rule : first ≡ 82 → (k : L.Sort Section) → k ≡ sortBy kind.other left → k ≡ sortOf (drop at l)
     sort-rule e k q = q ∙ sort-plain (rw e)
 
     no-rule : (first ≡ 82 → ⊥) → begins left wordRule ≡ false
@@ -85,7 +84,22 @@ module _ (l : List ℕ) (at i : ℕ) (es : i ≡ startAt l at) where
     unfolding sortBy
     sort-other b a r = sym (ap (λ (t : Bool). cond t L.start L.other) (no-rule r)) ∙ sort-plain (rw (ne-eqb first 59 b, ne-eqb first 91 a))
 
-    -- told by that byte alone
+    -- neither blank nor a header
+    pub data-blank : first ≡ 59 → false ≡ isData (sortOf (drop at l))
+    data-blank e = ap isData (sort-blank e)
+
+    pub data-header : first ≡ 91 → false ≡ isData (sortOf (drop at l))
+    data-header e = ap isData (sort-header e (trimmed left) refl (sectionOf (trimmed left)) refl)
+
+    pub data-other : (first ≡ 59 → ⊥) → (first ≡ 91 → ⊥) → true ≡ isData (sortOf (drop at l))
+    unfolding sortBy
+    data-other b a = is-data (begins left wordRule) ∙ ap isData (sort-plain (rw (ne-eqb first 59 b, ne-eqb first 91 a)))
+      where
+        is-data : (t : Bool) → true ≡ isData (cond t L.start L.other)
+        is-data true = refl
+        is-data false = refl
+
+    -- told by that byte alone to start no group
     plain-is : plainBy (startTrimmed (drop at l)) ≡ not (eqb first 59 || (eqb first 91 || eqb first 82))
     plain-is = ap plainBy (start-at l at i es ∙ drop-cons l i 0 h)
 
@@ -109,6 +123,9 @@ module _ (l : List ℕ) (at i : ℕ) (es : i ≡ startAt l at) where
         go false true w ex ey ew q = absurd (false≢true q)
         go false false true ex ey ew q = absurd (false≢true q)
         go false false false ex ey ew q = sort-other (eqb-false first 59 ex) (eqb-false first 91 ey) (eqb-false first 82 ew)
+
+  pub data-nothing : length l ≤ i → false ≡ isData (sortOf (drop at l))
+  data-nothing h = ap isData (sort-nothing h)
 
   pub plain-nothing : length l ≤ i → false ≡ plainBy (startTrimmed (drop at l))
   plain-nothing h = sym (ap plainBy (start-at l at i es ∙ drop-of-length-le l h))
@@ -199,7 +216,12 @@ same-line text at p e h =
 pub next-own : (text : List ℕ) (at from : ℕ) (r : OwnLine) → OwnFrom (take at text) from r → NextOwn text at from r
 next-own text at from r h = record {
   line = λ s e. let o = h .line s e in
-      record { whole = o .whole ∙ ap (λ (x : List Name). x ∷ groupFields text at (s .end)) (same-line text at (s .at) (s .end) (o .inside)); after = o .after; some = o .some; inside = omega (arith, o .inside, length-take at text) };
+      record {
+        whole = o .whole ∙ ap (λ (x : List Name). x ∷ groupFields text at (s .end)) (same-line text at (s .at) (s .end) (o .inside));
+        after = o .after;
+        some = o .some;
+        inside = omega (arith, o .inside, length-take at text);
+      };
   nothing = h .nothing;
 }
 
@@ -214,8 +236,10 @@ unfolding ownFields secAfter joined
 own-snoc s p [] b = rw add-zero (append-nil (cond (ownBy isRules (sortOf b) s) (fieldsOf p b ∷ []) []))
 own-snoc s p (c ∷ cs) b =
     ap (λ (x : List (List Name)). cond (ownBy isRules (sortOf c) s) (fieldsOf p c ∷ []) [] ++ x)
-    (own-snoc (secBy (sortOf c) s) (p + length c) cs b ∙ ap (λ (n : ℕ). ownFields (secBy (sortOf c) s) (p + length c) cs ++ cond (ownBy isRules (sortOf b) (secAfter sortOf (secBy (sortOf c) s) cs)) (fieldsOf n b ∷ []) []) (joined-long cs c p))
-    ∙ sym (append-assoc (cond (ownBy isRules (sortOf c) s) (fieldsOf p c ∷ []) []) (ownFields (secBy (sortOf c) s) (p + length c) cs) (cond (ownBy isRules (sortOf b) (secAfter sortOf (secBy (sortOf c) s) cs)) (fieldsOf (p + length (joined (c ∷ cs))) b ∷ []) []))
+    (own-snoc (secBy (sortOf c) s) (p + length c) cs b
+    ∙ ap (λ (n : ℕ). ownFields (secBy (sortOf c) s) (p + length c) cs ++ cond (ownBy isRules (sortOf b) (secAfter sortOf (secBy (sortOf c) s) cs)) (fieldsOf n b ∷ []) []) (joined-long cs c p))
+    ∙ sym (append-assoc (cond (ownBy isRules (sortOf c) s) (fieldsOf p c ∷ []) []) (ownFields (secBy (sortOf c) s) (p + length c) cs)
+    (cond (ownBy isRules (sortOf b) (secAfter sortOf (secBy (sortOf c) s) cs)) (fieldsOf (p + length (joined (c ∷ cs))) b ∷ []) []))
 
 -- the group g is the own lines of cs, which are placed from `first` on
 abbrev pub Placed : ℕ → List (List ℕ) → List Line → Type 0

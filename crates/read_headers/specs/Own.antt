@@ -2,7 +2,7 @@
 -- lines of other sections may stand between." Assumes nothing.
 use Prim.Native.Nat.{ℕ, _+_, _≤_, _<_}
 use mathlib.Core.Path.{_≡_}
-use mathlib.Core.Bool.{Bool, false, cond, not, _||_}
+use mathlib.Core.Bool.{Bool, true, false, cond, not, _||_}
 use mathlib.Core.List.{List, [], _∷_, _++_}
 use lib.ListN.{length, take, drop}
 use lib.Dec.{eqb}
@@ -25,6 +25,13 @@ sortIn Empty = L.empty
 sortIn (Heading s) = L.heading s
 sortIn Start = L.start
 sortIn Other = L.other
+
+-- a line that is neither blank nor a header: one of its section's
+abbrev pub isData : L.Sort Section → Bool
+isData L.empty = false
+isData (L.heading s) = false
+isData L.start = true
+isData L.other = true
 
 -- a line, its start trimmed, whose first byte tells that it is neither blank nor a header and starts no group: no `;`, no `[`, no R
 abbrev pub plainBy : List ℕ → Bool

@@ -1,11 +1,29 @@
--- The end of scope's `sectionOf` in the three parts in which the code has it: `sectionOf` is its tests of the nodes' sections and then `linkSection`. Assumes nothing.
+-- Which sections are passed over; and the end of scope's `sectionOf` in the three parts in which the code has it: `sectionOf` is its tests of the nodes' sections and
+-- then `linkSection`. Assumes nothing.
 use Prim.Native.Nat.{ℕ}
-use mathlib.Core.Bool.{cond}
+use mathlib.Core.Bool.{Bool, true, false, cond}
 use mathlib.Core.List.{List}
 use Rattle.leaf_letters.specs.Words.{same}
 use Rattle.scope.specs.declared.Section.{Section}
-use Rattle.scope.specs.declared.Section.the-variants.{Pipes, Pumps, Valves, Curves, Patterns, Demands, Emitters, Coordinates, Times, Rules, Passed}
+use Rattle.scope.specs.declared.Section.the-variants.{Junctions, Reservoirs, Tanks, Pipes, Pumps, Valves, Curves, Patterns, Demands, Emitters, Coordinates, Times, Rules, Passed}
 use Rattle.scope.specs.Spelling.{headerPipes, headerPumps, headerValves, headerCurves, headerPatterns, headerDemands, headerEmitters, headerCoordinates, headerTimes, headerRules}
+
+-- the sections whose lines are passed over
+abbrev pub passesOver : Section → Bool
+passesOver Junctions = false
+passesOver Reservoirs = false
+passesOver Tanks = false
+passesOver Pipes = false
+passesOver Pumps = false
+passesOver Valves = false
+passesOver Curves = false
+passesOver Patterns = false
+passesOver Demands = false
+passesOver Emitters = false
+passesOver Coordinates = false
+passesOver Times = false
+passesOver Rules = false
+passesOver Passed = true
 
 unfoldable pub otherSection : List ℕ → Section
 otherSection w =

@@ -1,13 +1,14 @@
 // The section that a header opens, what a line is, and the lines of a group.
 ghost use mathlib.Core.Path.{_≡_};
-ghost use lib.ListN.{drop};
-ghost use Rattle.leaf_scans.specs.declared.LineKind.the-variants as kind;
+ghost use mathlib.Core.Bool.{false, cond};
+ghost use lib.ListN.{take, drop};
+ghost use Rattle.leaf_scans.specs.Lines as kind;
 ghost use Rattle.leaf_scans.specs.Lines.{startTrimmed};
 ghost use Rattle.scope_lines.specs.Stretch.{secBy, ownBy};
 ghost use Rattle.scope.specs.Sections.{sectionOf, isRules};
 ghost use Rattle.scope.specs.Lines.{sortBy, sortOf};
 ghost use Rattle.read_headers.specs.Sections.{linkSection, seriesSection, otherSection};
-ghost use Rattle.read_headers.specs.Own.{sortIn, plainBy, OwnFrom, NextOwn};
+ghost use Rattle.read_headers.specs.Own.{sortIn, isData, plainBy, OwnFrom, NextOwn};
 use leaf_fields::Span;
 use scope::Section;
 
@@ -87,7 +88,7 @@ pub enum Sort {
 
 // A line that is neither blank nor a header, from its first field on.
 fn plain_sort(w: &[u8]) -> Sort
-    ensures { λ r. ⌜ sortIn r ≡ sortBy kind.Other (now (w .entry)) ⌝ }
+    ensures { λ r. ⌜ sortIn r ≡ sortBy kind.other (now (w .entry)) ⌝ }
 {
     if leaf_letters::starts_with(w, b"RULE") {
         return Sort::Start;
@@ -113,8 +114,23 @@ pub fn sort_of(l: &[u8], at: usize) -> Sort
     }
 }
 
-// Whether the first byte of the line of `l` from `at` on tells that it is neither blank nor a header and starts no group. It does of most lines, and `sort_of` is
-// too long for the compiler to put it where it is called.
+// Whether the line of `l` from `at` on is neither blank nor a header: its first byte that is no whitespace tells. `sort_of` is too long for the compiler to put it where
+// it is called.
+pub fn is_data(l: &[u8], at: usize) -> bool
+    ensures { λ r. ⌜ r ≡ isData (sortOf (drop at (now (l .entry)))) ⌝ }
+{
+    let start = leaf_fields::field_start(l, at);
+    if l.len() <= start {
+        return false;
+    }
+    match l[start] {
+        59 => false,
+        91 => false,
+        _ => true,
+    }
+}
+
+// Whether that byte tells that the line starts no group either, as it does of most lines.
 pub fn is_plain(l: &[u8], at: usize) -> bool
     ensures { λ r. ⌜ r ≡ plainBy (startTrimmed (drop at (now (l .entry)))) ⌝ }
 {
@@ -128,6 +144,16 @@ pub fn is_plain(l: &[u8], at: usize) -> bool
         82 => false,
         _ => true,
     }
+}
+
+// Whether the line of `l` from `at` on is told to join its group, which is open.
+pub fn is_joined(l: &[u8], at: usize, grouped: bool) -> bool
+    ensures { λ r. ⌜ r ≡ cond grouped (plainBy (startTrimmed (drop at (now (l .entry))))) false ⌝ }
+{
+    if grouped {
+        return is_plain(l, at);
+    }
+    false
 }
 
 pub fn in_rules(s: Section) -> bool
@@ -193,4 +219,11 @@ pub fn next_own(text: &[u8], at: usize, from: usize) -> OwnLine
     ensures { λ r. ⌜ NextOwn (now (text .entry)) at from r ⌝ }
 {
     own_from(leaf_letters::cut(text, 0, at), from)
+}
+
+// The text up to the end of such a line: unlike other lines it is not cut at a `;`.
+pub fn own_bytes(text: &[u8], line: Span) -> &[u8]
+    ensures { λ r. ⌜ now r ≡ take (line .end) (now (text .entry)) ⌝ }
+{
+    leaf_letters::cut(text, 0, line.end)
 }

@@ -85,7 +85,8 @@ module _ {text : List ℕ} {nc nr : ℕ} {w : List ℕ} {f : List Float} {c r : 
       }
 
 -- ---- behind lines of class k that stop nothing
-same-swept : {text : List ℕ} {nc nr : ℕ} {w w′ : List ℕ} {f f′ : List Float} {c c′ r : List ℕ} {s t : State} → t ≡ s → w′ ≡ w → f′ ≡ f → c′ ≡ c → Swept text nc nr w f c r s → Swept text nc nr w′ f′ c′ r t
+same-swept : {text : List ℕ} {nc nr : ℕ} {w w′ : List ℕ} {f f′ : List Float} {c c′ r : List ℕ} {s t : State} → t ≡ s → w′ ≡ w → f′ ≡ f → c′ ≡ c
+    → Swept text nc nr w f c r s → Swept text nc nr w′ f′ c′ r t
 same-swept {text} {nc} {nr} {w} {f = f} {c′ = c′} {r} {s} a b d e q =
     same (λ (x : State) (y : List ℕ) (z : List Float). Swept text nc nr y z c′ r x) a b d (subst (λ (x : List ℕ). Swept text nc nr w f x r s) (sym e) q)
 

@@ -52,20 +52,7 @@ fn mark_turn(
     }
 }
 
-// Whether the reading stops at a line.
-fn stops(marking: bool, reason: u8) -> bool
-    ensures { λ r. ⌜ (r ≡ true → (marking ≡ false) × (reason ≡ 0 → ⊥)) × (r ≡ false → marking ≡ false → reason ≡ 0) ⌝ }
-{
-    if marking {
-        return false;
-    }
-    if reason == 0 {
-        return false;
-    }
-    true
-}
-
-// Every line, up to the end or to where the reading stops. Most lines are plain; what else a line may be, a step tells.
+// Every line, up to the end or to where the reading stops. Most lines are plain; the one behind them is refused, or a step tells what it is.
 pub fn go_over(
     text: &[u8],
     marking: bool,
@@ -85,7 +72,7 @@ pub fn go_over(
         s = plain.state;
         mark_plain(marking, classes, from, s.line, plain.class);
         if s.at < text.len() {
-            let t = read_steps::step(text, s, words, numbers);
+            let t = read_runs::turn_after(text, plain, words, numbers);
             let reason = t.reason;
             mark_turn(
                 marking,
@@ -98,7 +85,7 @@ pub fn go_over(
                 reason,
             );
             s = t.state;
-            if stops(marking, reason) {
+            if read_marks::stops(marking, reason) {
                 let counts = s.counts;
                 return Over {
                     counts,

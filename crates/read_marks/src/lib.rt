@@ -1,6 +1,6 @@
 // The classes and the reasons of the lines, in the bytes that the caller lends: a line marked, a closed group filled back, the classes counted.
 ghost use mathlib.Core.Path.{_≡_};
-ghost use mathlib.Core.Bool.{cond};
+ghost use mathlib.Core.Bool.{true, false, cond};
 ghost use Prim.Native.Nat.{_-_, _≤_, _<_};
 ghost use lib.ListN.{length, take, set, replicate};
 ghost use lib.Dec.{eqb};
@@ -71,6 +71,19 @@ pub fn mark_reason(reasons: &mut [u8], piece: usize, reason: u8)
         return;
     }
     reasons[piece - 1] = reason;
+}
+
+// Whether the reading stops at a line.
+pub fn stops(marking: bool, reason: u8) -> bool
+    ensures { λ r. ⌜ (r ≡ true → (marking ≡ false) × (reason ≡ 0 → ⊥)) × (r ≡ false → marking ≡ false → reason ≡ 0) ⌝ }
+{
+    if marking {
+        return false;
+    }
+    if reason == 0 {
+        return false;
+    }
+    true
 }
 
 fn one(b: u8, k: u8) -> usize

@@ -2,7 +2,7 @@
 use Prim.Native.Nat.{ℕ, _+_, _≤_, _<_}
 use native.Mathlib.Omega.{arith}
 use mathlib.Core.Path.{_≡_, refl, sym, ap, _∙_, subst}
-use mathlib.Core.Bool.{true, false}
+use mathlib.Core.Bool.{true, false, cond}
 use mathlib.Core.List.{List}
 use lib.ListN.{length, take, drop}
 use lib.Ieee.{Float}
@@ -10,24 +10,27 @@ use Rattle.leaf_fields.specs.Fields.{fieldsAt}
 use Rattle.leaf_scans.specs.Lines.{lineLen, startTrimmed, cutOf}
 use Rattle.leaf_scans.proofs.LineLaws.{body-long, end-more}
 use Rattle.scope_lines.specs.Reader.{Outcome, next, step}
-use Rattle.scope_lines.specs.Text.{lineAt}
+use Rattle.scope_lines.specs.Text.{bodyAt, lineAt}
 use Rattle.scope.specs.declared.Section.{Section}
 use Rattle.scope.specs.declared.Counts.{Counts}
 use Rattle.scope.specs.declared.Reason.{Reason}
+use Rattle.scope.specs.Answers.{reasonNo}
 use Rattle.scope.specs.Sections.{isRules}
 use Rattle.scope.specs.Records.{Network}
-use Rattle.scope.specs.Lines.{inp}
+use Rattle.scope.specs.Lines.{sortOf, inp}
 use Rattle.table_rows.specs.Holding.{Holds, After}
 use Rattle.table_rows.specs.declared.Kept.{Kept}
 use Rattle.table_rows.specs.declared.Kept.the-variants.{Stored, Refused}
-use Rattle.table_rows.proofs.AfterLaws.{after-refused}
-use Rattle.read_headers.specs.Own.{plainBy}
-use Rattle.read_sections.specs.Storing.{passesOver, lineStep}
-use Rattle.read_steps.specs.Held.{Model, Fits, Stepped, Goes, movedTo, filedBy, joinedBy}
+use Rattle.read_headers.specs.Own.{isData, plainBy}
+use Rattle.read_headers.specs.Sections.{passesOver}
+use Rattle.read_sections.specs.Storing.{lineStep}
+use Rattle.read_steps.specs.Held.{Model, Fits, Unstored, Stepped, Goes, movedTo}
 use Rattle.read_steps.specs.declared.State.{State}
 use Rattle.read_steps.specs.declared.Turn.{Turn}
-use Rattle.read_steps.proofs.WayLaws.{by-section, way-stored, way-joined}
-use Rattle.read_runs.specs.Onward.{Ready, Onward, none, more}
+use Rattle.read_steps.proofs.StepLaws.{never, some-reason}
+use Rattle.read_steps.proofs.WayLaws.{both, body-at, way-joined}
+use Rattle.read_runs.specs.Onward.{Ready, Onward, LeftAt, none, more}
+use Rattle.read_runs.proofs.FiledLaws.{way-stored, way-refused}
 
 -- what holds of a state and the tables holds of the same ones
 pub same : (P : State → List ℕ → List Float → Type 0) {s t : State} {w w′ : List ℕ} {f f′ : List Float} → t ≡ s → w′ ≡ w → f′ ≡ f → P s w f → P t w′ f′
@@ -65,29 +68,54 @@ module _ {text : List ℕ} {k : ℕ} {s₀ : State} {w₀ : List ℕ} {f₀ : Li
       → Come text k s₀ w₀ f₀ (r .state) w′ f′
   come {r} go a b c x = record { onward = more r (g .onward) h go a b c refl; ready = after-line (g .ready) go; sec = x ∙ g .sec }
 
--- ---- a line that is stored
+-- ---- where they end: the text does, or at a line that no section stores
+at-end : {text w : List ℕ} {f : List Float} {s : State} → length text ≤ s .at → LeftAt text w f s 0 0
+at-end h = record { refused = λ x. absurd (x refl); left = λ _ k. absurd (omega (arith, h, k)) }
+
+pub left-unstored : {text w : List ℕ} {f : List Float} {s : State} → Unstored (sortOf (bodyAt text (s .at))) (s .section) → LeftAt text w f s 0 0
+left-unstored u = record { refused = λ x. absurd (x refl); left = λ _ _. u }
+
+pub came-to-end : {text : List ℕ} {k : ℕ} {s₀ : State} {w₀ : List ℕ} {f₀ : List Float} {s : State} {w : List ℕ} {f : List Float} → Come text k s₀ w₀ f₀ s w f → length text ≤ s .at
+    → Onward text k s₀ w₀ f₀ s w f × LeftAt text w f s 0 0
+came-to-end g h = (g .onward, at-end h)
+
+-- ---- a line of a section that stores
 module _ {text : List ℕ} {s₀ : State} {w₀ : List ℕ} {f₀ : List Float} {s : State} {w : List ℕ} {f : List Float} (g : Come text 4 s₀ w₀ f₀ s w f) (h : s .at < length text)
-    {x : Section} (ex : x ≡ s₀ .section) (a : isRules x ≡ false) (b : passesOver x ≡ false)
-    {e end : ℕ} (he : e ≡ s .at + lineLen (drop (s .at) text)) (z : end ≡ s .at + length (cutOf (drop (s .at) (take e text))))
-    (p : plainBy (startTrimmed (drop (s .at) (take e text))) ≡ true) where
-  its : x ≡ s .section
-  its = ex ∙ sym (g .sec)
+    {e : ℕ} (he : e ≡ s .at + lineLen (drop (s .at) text)) where
+  told : isData (sortOf (bodyAt text (s .at))) ≡ isData (sortOf (drop (s .at) (take e text)))
+  told = ap (λ y. isData (sortOf y)) (sym (body-at (fits (g .ready) h) he))
 
-  is-filed : filedBy (plainBy (startTrimmed (drop (s .at) (take e text)))) (s .section) ≡ true
-  is-filed = sym (by-section (plainBy (startTrimmed (drop (s .at) (take e text)))) (s .section) (ap isRules (sym its) ∙ a) (ap passesOver (sym its) ∙ b)) ∙ p
+  pub not-data : isData (sortOf (drop (s .at) (take e text))) ≡ false → Onward text 4 s₀ w₀ f₀ s w f × LeftAt text w f s 0 0
+  not-data p = (g .onward, left-unstored (λ d _. never (sym (told ∙ p) ∙ d)))
 
-  module _ {w′ : List ℕ} {f′ : List Float} {kept : Kept} (ens : (n : Network) → Holds text n (s .counts) w f → After text (lineStep x (fieldsAt (take end text) (s .at)) n) kept w f w′ f′) where
-    pub stored : {c : Counts} {t : State} → kept ≡ Stored c → t ≡ movedTo s x c e → Come text 4 s₀ w₀ f₀ t w′ f′
-    stored {c} {t} q es =
-        let ens′ = subst (λ (y : Section). (n : Network) → Holds text n (s .counts) w f → After text (lineStep y (fieldsAt (take end text) (s .at)) n) kept w f w′ f′) its ens in
-        let es′ : t ≡ movedTo s (s .section) c e = es ∙ ap (λ (y : Section). movedTo s y c e) its in
-        come g h (way-stored (fits (g .ready) h) he is-filed z ens′ q es′) refl refl refl (ap (λ (y : State). y .section) es′)
+  module _ {x : Section} (ex : x ≡ s₀ .section) (a : isRules x ≡ false) (b : passesOver x ≡ false)
+      {end : ℕ} (z : end ≡ s .at + length (cutOf (drop (s .at) (take e text)))) (p : isData (sortOf (drop (s .at) (take e text))) ≡ true) where
+    its : x ≡ s .section
+    its = ex ∙ sym (g .sec)
 
-    pub unstored : {n : Reason} → kept ≡ Refused n → Onward text 4 s₀ w₀ f₀ s w′ f′
-    unstored {n} q =
-        let m : Network = g .ready .m .recs in
-        let r = after-refused text w w′ f f′ (lineStep x (fieldsAt (take end text) (s .at)) m) kept n (ens m (g .ready .stands .recs)) q in
-        same (Onward text 4 s₀ w₀ f₀) refl (r .1) (r .2) (g .onward)
+    not-rules : isRules (s .section) ≡ false
+    not-rules = ap isRules (sym its) ∙ a
+
+    not-over : passesOver (s .section) ≡ false
+    not-over = ap passesOver (sym its) ∙ b
+
+    -- what is promised of the line, in the words of the section x
+    abbrev Promise : Section → Kept → List ℕ → List Float → Type 0
+    Promise y k w′ f′ = (n : Network) → Holds text n (s .counts) w f → After text (lineStep y (fieldsAt (take end text) (s .at)) n) k w f w′ f′
+
+    module _ {w′ : List ℕ} {f′ : List Float} {kept : Kept} (ens : Promise x kept w′ f′) where
+      pub stored : {c : Counts} {t : State} → kept ≡ Stored c → t ≡ movedTo s x c e → Come text 4 s₀ w₀ f₀ t w′ f′
+      stored {c} {t} q es =
+          let ens′ = subst (λ (y : Section). Promise y kept w′ f′) its ens in
+          let es′ : t ≡ movedTo s (s .section) c e = es ∙ ap (λ (y : Section). movedTo s y c e) its in
+          come g h (way-stored (fits (g .ready) h) he (told ∙ p) not-rules not-over z ens′ q es′) refl refl refl (ap (λ (y : State). y .section) es′)
+
+      pub unstored : {n : Reason} {rs : ℕ} → kept ≡ Refused n → rs ≡ reasonNo n → Onward text 4 s₀ w₀ f₀ s w′ f′ × LeftAt text w′ f′ s rs e
+      unstored {n} {rs} q er =
+          let ens′ = subst (λ (y : Section). Promise y kept w′ f′) its ens in
+          let r = way-refused (fits (g .ready) h) he (told ∙ p) not-rules not-over z ens′ q er in
+          let l : LeftAt text w f s rs e = record { refused = λ _. r .2; left = λ y. absurd (some-reason n (sym er ∙ y)) } in
+          (same (Onward text 4 s₀ w₀ f₀) refl (r .0) (r .1) (g .onward), same (λ (t : State) (y : List ℕ) (v : List Float). LeftAt text y v t rs e) refl (r .0) (r .1) l)
 
 -- ---- a line that joins the open group, whatever the tables hold
 pub record Joined (text : List ℕ) (s₀ s : State) : Type 0 where
@@ -97,19 +125,21 @@ pub record Joined (text : List ℕ) (s₀ s : State) : Type 0 where
 pub begin-joined : {text : List ℕ} {s : State} → s .line ≤ s .at → Joined text s s
 begin-joined h = record { line = h; all = λ w f y. begin 8 y }
 
-pub joined : {text : List ℕ} {s₀ s : State} (j : Joined text s₀ s) (h : s .at < length text) {x : Section} (ex : x ≡ s₀ .section)
-    {e : ℕ} (he : e ≡ s .at + lineLen (drop (s .at) text)) → joinedBy (plainBy (startTrimmed (drop (s .at) (take e text)))) x (s .grouped) ≡ true
+pub joined : {text : List ℕ} {s₀ s : State} (j : Joined text s₀ s) (h : s .at < length text) (a : isRules (s₀ .section) ≡ true) {x : Section} (ex : x ≡ s₀ .section)
+    {e : ℕ} (he : e ≡ s .at + lineLen (drop (s .at) text)) → cond (s .grouped) (plainBy (startTrimmed (drop (s .at) (take e text)))) false ≡ true
     → {t : State} → t ≡ movedTo s x (s .counts) e → Joined text s₀ t
-joined {text} {s₀} {s} j h {x} ex {e} he b {t} es = record {
+joined {text} {s₀} {s} j h a {x} ex {e} he b {t} es = record {
   line = rw es (omega (arith, j .line, end-more text (s .at) e h he));
   all = λ w f y.
       let g = j .all w f y in
-      let its : x ≡ s .section = ex ∙ sym (g .sec) in
-      let es′ : t ≡ movedTo s (s .section) (s .counts) e = es ∙ ap (λ (v : Section). movedTo s v (s .counts) e) its in
-      let b′ : joinedBy (plainBy (startTrimmed (drop (s .at) (take e text)))) (s .section) (s .grouped) ≡ true =
-      subst (λ (v : Section). joinedBy (plainBy (startTrimmed (drop (s .at) (take e text)))) v (s .grouped) ≡ true) its b in
-      come g h (way-joined (fits (g .ready) h) he b′ es′) refl refl refl (ap (λ (v : State). v .section) es′);
+      let q = both (s .grouped) (plainBy (startTrimmed (drop (s .at) (take e text)))) b in
+      let es′ : t ≡ movedTo s (s .section) (s .counts) e = es ∙ ap (λ (v : Section). movedTo s v (s .counts) e) (ex ∙ sym (g .sec)) in
+      come g h (way-joined (fits (g .ready) h) he (ap isRules (g .sec) ∙ a) (q .0) (q .1) es′) refl refl refl (ap (λ (v : State). v .section) es′);
 }
+
+pub left-joined : {text : List ℕ} {s₀ s : State} → Joined text s₀ s → isRules (s₀ .section) ≡ true → (w : List ℕ) (f : List Float) → Ready text s₀ w f
+    → Onward text 8 s₀ w f s w f × LeftAt text w f s 0 0
+left-joined j a w f y = let g = j .all w f y in (g .onward, left-unstored (λ _ x. never (sym x ∙ ap isRules (g .sec) ∙ a)))
 
 -- ---- after lines of class k
 pub ready-after : {text : List ℕ} {k : ℕ} {s : State} {w : List ℕ} {f : List Float} {t : State} {w′ : List ℕ} {f′ : List Float} → Ready text s w f → Onward text k s w f t w′ f′ → Ready text t w′ f′

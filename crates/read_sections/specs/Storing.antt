@@ -1,5 +1,4 @@
 -- What a line of each section makes of the network. Assumes nothing.
-use mathlib.Core.Bool.{Bool, true, false}
 use mathlib.Core.List.{List}
 use Rattle.leaf_fields.specs.Fields.{Name}
 use Rattle.scope.specs.declared.Section.{Section}
@@ -10,23 +9,6 @@ use Rattle.scope.specs.Nodes.{junctionStep, reservoirStep, tankStep, emitterSte
 use Rattle.scope.specs.Links.{pipeStep, pumpStep, valveStep}
 use Rattle.scope.specs.Series.{curveStep, patternStep, demandStep}
 use Rattle.scope.specs.Times.{timesStep}
-
--- the sections whose lines are passed over
-abbrev pub passesOver : Section → Bool
-passesOver Junctions = false
-passesOver Reservoirs = false
-passesOver Tanks = false
-passesOver Pipes = false
-passesOver Pumps = false
-passesOver Valves = false
-passesOver Curves = false
-passesOver Patterns = false
-passesOver Demands = false
-passesOver Emitters = false
-passesOver Coordinates = false
-passesOver Times = false
-passesOver Rules = false
-passesOver Passed = true
 
 -- what the fields of a line of a section make of the network; lines of RULES and lines that are passed over store nothing
 abbrev pub lineStep : Section → List Name → Network → Read Network

@@ -1,36 +1,13 @@
 // The sections of a text: a line is handed to the reader of its section; the lines of some sections are passed over, those of RULES are kept for their group.
-ghost use mathlib.Core.Path.{_≡_};
 ghost use Prim.Native.Nat.{_≤_};
 ghost use lib.ListN.{length, take};
 ghost use Rattle.leaf_fields.specs.Fields.{fieldsAt};
 ghost use Rattle.scope.specs.Records.{Network};
 ghost use Rattle.table_rows.specs.Holding.{Holds, Sound, After};
-ghost use Rattle.read_sections.specs.Storing.{passesOver, lineStep};
+ghost use Rattle.read_sections.specs.Storing.{lineStep};
 use scope::Counts;
 use scope::Section;
 use table_rows::Kept;
-
-// Whether the lines of a section are passed over.
-pub fn passes_over(s: Section) -> bool
-    ensures { λ r. ⌜ r ≡ passesOver s ⌝ }
-{
-    match s {
-        Section::Junctions => false,
-        Section::Reservoirs => false,
-        Section::Tanks => false,
-        Section::Pipes => false,
-        Section::Pumps => false,
-        Section::Valves => false,
-        Section::Curves => false,
-        Section::Patterns => false,
-        Section::Demands => false,
-        Section::Emitters => false,
-        Section::Coordinates => false,
-        Section::Times => false,
-        Section::Rules => false,
-        Section::Passed => true,
-    }
-}
 
 // Hands a line to the reader of its section.
 pub fn store_line(

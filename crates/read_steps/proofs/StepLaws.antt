@@ -18,7 +18,8 @@ use Rattle.scope.specs.declared.Section.{Section}
 use Rattle.scope.specs.declared.Section.the-variants.{Rules}
 use Rattle.scope.specs.declared.Counts.{Counts}
 use Rattle.scope.specs.declared.Reason.{Reason}
-use Rattle.scope.specs.declared.Reason.the-variants.{Missing, Malformed, Used, NotFound, WrongKind, XFalls, UnknownWord, NoCondition, NoAction, NoId, TooLong, HighByte, BeyondReach, NoRoom, SmallTable}
+use Rattle.scope.specs.declared.Reason.the-variants.{Missing, Malformed, Used, NotFound, WrongKind, XFalls, UnknownWord, NoCondition, NoAction, NoId, TooLong}
+use Rattle.scope.specs.declared.Reason.the-variants.{HighByte, BeyondReach, NoRoom, SmallTable}
 use Rattle.scope.specs.Sections.{isRules}
 use Rattle.scope.specs.Answers.{reasonNo}
 use Rattle.scope.specs.Records.{Network}

@@ -1,17 +1,16 @@
 -- Each way through the functions of one line, from what the code knows there. Assumes nothing.
-use Prim.Native.Nat.{ℕ, _+_, _≤_}
-use native.Mathlib.Omega.{arith}
+use Prim.Native.Nat.{ℕ, _+_}
 use mathlib.Core.Path.{_≡_, refl, sym, ap, _∙_, subst}
 use mathlib.Core.Bool.{Bool, true, false, cond}
 use mathlib.Core.List.{List, [], map}
-use lib.ListN.{length, take, drop, length-take, length-drop}
+use lib.ListN.{take, drop}
 use lib.Ieee.{Float}
-use Rattle.leaf_fields.specs.Fields.{Name, fieldsOf, fieldsAt, startAt}
-use Rattle.leaf_scans.specs.Lines.{lineLen, startTrimmed, cutOf}
-use Rattle.leaf_scans.proofs.LineLaws.{end-le, end-more, body-is, cut-prefix}
-use Rattle.leaf_fields.proofs.FieldLaws.{drop-take, line-cut-fields}
+use Rattle.leaf_fields.specs.Fields.{Name, startAt}
+use Rattle.leaf_scans.specs.Lines.{lineLen, startTrimmed}
+use Rattle.leaf_scans.proofs.LineLaws.{body-is}
+use Rattle.leaf_fields.proofs.FieldLaws.{drop-take}
 use Rattle.scope_lines.specs.Reader as L
-use Rattle.scope_lines.specs.Reader.{Outcome, still, filed, joins, closes, last, itself, isBlank, isHeader, isPassed, stillClass, code, ifOpen, ofStored, shut, act, step, empty, heading, start, other}
+use Rattle.scope_lines.specs.Reader.{Outcome, still, joins, closes, itself, last, isBlank, isHeader, isPassed, stillClass, code, ifOpen, ofStored, shut, act, step, empty, heading, start, other}
 use Rattle.scope_lines.specs.Text.{Line, bodyAt, lineAt}
 use Rattle.scope_lines.specs.Stretch.{ownBy, secBy}
 use Rattle.scope_lines.proofs.Stretch.{is-open}
@@ -29,65 +28,47 @@ use Rattle.table_rows.specs.Holding.{Holds, After}
 use Rattle.table_rows.specs.declared.Kept.{Kept}
 use Rattle.table_rows.specs.declared.Kept.the-variants.{Stored, Refused}
 use Rattle.table_rows.proofs.AfterLaws.{after-stored, after-refused}
-use Rattle.read_headers.specs.Own.{sortIn, plainBy, groupFields}
-use Rattle.read_sections.specs.Storing.{passesOver, lineStep}
-use Rattle.read_steps.specs.Held.{Model, Carries, Fits, Plain, Stepped, Goes, ownLine, movedTo, joinedTo, shutTo, filedBy, joinedBy}
-use Rattle.read_steps.specs.declared.State.{State}
-use Rattle.read_steps.specs.declared.Turn.{Turn}
+use Rattle.read_headers.specs.Own.{sortIn, isData, plainBy, groupFields}
+use Rattle.read_headers.specs.Sections.{passesOver}
 use Rattle.read_headers.specs.declared.Sort.{Sort}
 use Rattle.read_headers.specs.declared.Sort.the-variants as sort
 use Rattle.read_headers.proofs.OwnLaws.{own-rules, plain-sort}
-use Rattle.read_steps.proofs.StepLaws.{never, still-step, joins-step, taken-step, refused-step, closed-step, rejected-step}
+use Rattle.read_steps.specs.Held.{Model, Carries, Fits, Unstored, Stepped, Goes, ownLine, closesBy, movedTo, joinedTo, shutTo, quiet, plainTurn}
+use Rattle.read_steps.specs.declared.State.{State}
+use Rattle.read_steps.specs.declared.Turn.{Turn}
+use Rattle.read_steps.proofs.StepLaws.{never, still-step, joins-step, closed-step, rejected-step}
 
 pub both : (a b : Bool) → cond a b false ≡ true → (a ≡ true) × (b ≡ true)
 both true b z = (refl, z)
 both false b z = (z, never z)
 
--- a line that is stored at once: it is plain, and its section stores
-at-once : (p : Bool) (x : Section) → filedBy p x ≡ true → (p ≡ true) × (isRules x ≡ false) × (passesOver x ≡ false)
-at-once p x z = go (isRules x) (passesOver x) z
-  where
-    go : (a b : Bool) → cond a false (cond b false p) ≡ true → (p ≡ true) × (a ≡ false) × (b ≡ false)
-    go true b z = never z
-    go false true z = never z
-    go false false z = (z, refl, refl)
-
-pub by-section : (p : Bool) (x : Section) → isRules x ≡ false → passesOver x ≡ false → p ≡ filedBy p x
-by-section p x a b = rw (a, b)
-
--- a line that joins the open group: it is plain, the section is RULES, and a group is open
-to-join : (p : Bool) (x : Section) (g : Bool) → joinedBy p x g ≡ true → (p ≡ true) × (isRules x ≡ true) × (g ≡ true)
-to-join p x true z = let q = both (isRules x) p z in (q .1, q .0, refl)
-to-join p x false z = never z
-
-pub by-group : (p : Bool) (x : Section) (g : Bool) → g ≡ true → isRules x ≡ true → p ≡ joinedBy p x g
-by-group p x g a b = rw (a, b)
-
 -- where a group is open, to join it is to move on
 joined-open : (s : State) (e : ℕ) → s .grouped ≡ true → movedTo s (s .section) (s .counts) e ≡ joinedTo s e
 joined-open s e g = rw g
 
--- ---- what the definitions say of a line
-becomes : {text w : List ℕ} {f : List Float} {s : State} {l : Line} {m : Model} {o o′ : Outcome Section Network} {r : Turn} → o ≡ o′ → Stepped text s l m o′ r w f → Stepped text s l m o r w f
-becomes {text} {w} {f} {s} {l} {m} {r = r} e st = subst (λ x. Stepped text s l m x r w f) (sym e) st
+-- a line closes a group only where one is open
+pub closes-open : (k : L.Sort Section) (x : Section) (g : Bool) → closesBy k x g ≡ true → g ≡ true
+closes-open empty x g z = z
+closes-open (heading y) x g z = never z
+closes-open start x g z = both (isRules x) g z .1
+closes-open other x g z = never z
 
--- in a section that stores
-stores : (x : Section) (fs : List Name) (n : Network) → isRules x ≡ false → passesOver x ≡ false → stepOf x fs n ≡ L.judged (verdict (lineStep x fs n))
-unfolding stepOf
-stores Junctions fs n a b = refl
-stores Reservoirs fs n a b = refl
-stores Tanks fs n a b = refl
-stores Pipes fs n a b = refl
-stores Pumps fs n a b = refl
-stores Valves fs n a b = refl
-stores Curves fs n a b = refl
-stores Patterns fs n a b = refl
-stores Demands fs n a b = refl
-stores Emitters fs n a b = refl
-stores Coordinates fs n a b = refl
-stores Times fs n a b = refl
-stores Rules fs n a b = never (sym a)
-stores Passed fs n a b = never (sym b)
+-- a line that is neither blank nor a header
+pub data-own : (k : L.Sort Section) → isData k ≡ true → (x : Section) → ownBy isRules k x ≡ isRules x
+data-own empty d x = never d
+data-own (heading y) d x = never d
+data-own start d x = refl
+data-own other d x = refl
+
+pub data-sec : (k : L.Sort Section) → isData k ≡ true → (x : Section) → secBy k x ≡ x
+data-sec empty d x = never d
+data-sec (heading y) d x = never d
+data-sec start d x = refl
+data-sec other d x = refl
+
+-- ---- what the definitions say of a line
+pub becomes : {text w : List ℕ} {f : List Float} {s : State} {l : Line} {m : Model} {o o′ : Outcome Section Network} {r : Turn} → o ≡ o′ → Stepped text s l m o′ r w f → Stepped text s l m o r w f
+becomes {text} {w} {f} {s} {l} {m} {r = r} e st = subst (λ x. Stepped text s l m x r w f) (sym e) st
 
 passed-over : (x : Section) (fs : List Name) (n : Network) → passesOver x ≡ true → (isRules x ≡ false) × (stepOf x fs n ≡ L.over)
 unfolding stepOf
@@ -107,10 +88,6 @@ passed-over Rules fs n a = never a
 passed-over Passed fs n a = (refl, refl)
 
 module _ (m : Model) (l : Line) (x : Section) (e : m .sec ≡ x) where
-  files : isRules x ≡ false → passesOver x ≡ false → act inp false other (isRules (m .sec)) m l ≡ filed (verdict (lineStep x (sectionFields l) (m .recs)))
-  unfolding act inp ofStored
-  files a b = rw (e, a, stores x (sectionFields l) (m .recs) a b)
-
   passes : passesOver x ≡ true → act inp false other (isRules (m .sec)) m l ≡ still isPassed x
   unfolding act inp ofStored
   passes b = let p = passed-over x (sectionFields l) (m .recs) b in rw (e, p .0, p .1)
@@ -156,169 +133,111 @@ module _ {text w : List ℕ} {f : List Float} {s : State} (fit : Fits text s w f
         becomes (ap (λ v. closes v (ownLine d (m .sec))) (shut-is m hs g ∙ verdict-bad o (p .0)))
         (rw (es, ec, er) (rejected-step hs (fit .more) e he g d n (p .1) (p .2)))
 
-  -- ---- a line that is stored
-  cut-le : (l : List ℕ) → length (cutOf l) ≤ length l
-  cut-le l = omega (arith, ap length (cut-prefix l), length-take (length (cutOf l)) l)
+  -- ---- the line, by its sort
+  pub body-at : drop (s .at) (take e text) ≡ bodyAt text (s .at)
+  body-at = drop-take (s .at) e text ∙ body-is text (s .at) e (fit .more) he
 
-  pub end-inside : {end : ℕ} → end ≡ s .at + length (cutOf (drop (s .at) (take e text))) → end ≤ length text
-  end-inside z =
-      omega (arith, cut-le (drop (s .at) (take e text)), length-drop (s .at) (take e text), length-take e text, end-le text (s .at) e (fit .more) he, end-more text (s .at) e (fit .more) he)
+  pub sort-here : {k : L.Sort Section} → k ≡ sortOf (drop (s .at) (take e text)) → sortOf (bodyAt text (s .at)) ≡ k
+  sort-here q = ap sortOf (sym body-at) ∙ sym q
 
-  body-cut : {end : ℕ} → end ≡ s .at + length (cutOf (drop (s .at) (take e text))) → fieldsAt (take end text) (s .at) ≡ sectionFields here
-  body-cut {end} z = line-cut-fields text (s .at) e end z ∙ ap (λ x. fieldsOf (s .at) (cutOf x)) (body-is text (s .at) e (fit .more) he)
+  -- it closes the group
+  closing : (k : L.Sort Section) → closesBy k (s .section) (s .grouped) ≡ true → (m : Model) (l : Line) → Carries text s w f m
+      → act inp false k (isRules (m .sec)) m l ≡ closes (shut inp m) (ownLine (ownBy isRules k (s .section)) (m .sec))
+  unfolding act
+  closing empty z m l hs =
+      let st = hs .group z .stretch in
+      is-open {X = Outcome Section Network} (m .group) (st .named) (st .some) (closes (shut inp m) (itself isBlank (m .sec))) (still isBlank (m .sec))
+  closing (heading y) z m l hs = never z
+  closing start z m l hs =
+      let b = both (isRules (s .section)) (s .grouped) z in
+      let st = hs .group (b .1) .stretch in
+      rw (ap isRules (hs .sec) ∙ b .0, b .0) (is-open {X = Outcome Section Network} (m .group) (st .named) (st .some) (closes (shut inp m) last) joins)
+  closing other z m l hs = never z
 
-  module _ (p : Plain (sortOf (bodyAt text (s .at)))) where
-    not-own : isRules (s .section) ≡ false → ownBy isRules (sortOf (bodyAt text (s .at))) (s .section) ≡ false
-    not-own a = p .own (s .section) ∙ a
+  -- it closes nothing, and is neither blank nor a header
+  start-other : (m : Model) (l : Line) (t : Bool) → isRules (m .sec) ≡ t → (t ≡ true → m .group ≡ [])
+      → act inp false start (isRules (m .sec)) m l ≡ act inp false other (isRules (m .sec)) m l
+  unfolding act ifOpen
+  start-other m l true a b = rw (a, b refl)
+  start-other m l false a b = rw a
 
-    filed-is : (end : ℕ) → isRules (s .section) ≡ false → passesOver (s .section) ≡ false → end ≡ s .at + length (cutOf (drop (s .at) (take e text))) → (m : Model) → Carries text s w f m
-        → act inp false other (isRules (m .sec)) m here ≡ filed (verdict (lineStep (s .section) (fieldsAt (take end text) (s .at)) (m .recs)))
-    filed-is end a b z m hs = files m here (s .section) (hs .sec) a b ∙ ap (λ x. filed (verdict (lineStep (s .section) x (m .recs)))) (sym (body-cut z))
+  as-other : (k : L.Sort Section) → isData k ≡ true → closesBy k (s .section) (s .grouped) ≡ false → (m : Model) (l : Line) → Carries text s w f m
+      → act inp false k (isRules (m .sec)) m l ≡ act inp false other (isRules (m .sec)) m l
+  as-other empty d z m l hs = never d
+  as-other (heading y) d z m l hs = never d
+  as-other start d z m l hs = start-other m l (isRules (s .section)) (ap isRules (hs .sec)) (λ a. hs .none (rw a at z))
+  as-other other d z m l hs = refl
 
-    module _ {w′ : List ℕ} {f′ : List Float} {k : Kept} {end : ℕ} (a : isRules (s .section) ≡ false) (b : passesOver (s .section) ≡ false)
-        (z : end ≡ s .at + length (cutOf (drop (s .at) (take e text))))
-        (ens : (n : Network) → Holds text n (s .counts) w f → After text (lineStep (s .section) (fieldsAt (take end text) (s .at)) n) k w f w′ f′) where
-      pub way-taken : {c : Counts} {st : State} → k ≡ Stored c → st ≡ movedTo s (s .section) c e
-          → Goes text s w f (λ m l. act inp false other (isRules (m .sec)) m l) (record { state = st; class = 4; closed = 0; reason = 0; piece = s .line + 1 }) w′ f′
-      way-taken {c} q es m hs =
-          let o : Read Network = lineStep (s .section) (fieldsAt (take end text) (s .at)) (m .recs) in
-          let r = after-stored text w w′ f f′ o k c (ens (m .recs) (hs .recs)) q in
-          becomes (filed-is end a b z m hs ∙ ap filed (verdict-good o (r .1))) (rw es (taken-step hs (fit .more) e he (not-own a) (p .sec (s .section)) (r .0) c (r .2)))
-
-      pub way-refused : {n : Reason} {st : State} {rs : ℕ} → k ≡ Refused n → st ≡ movedTo s (s .section) (s .counts) e → rs ≡ reasonNo n
-          → Goes text s w f (λ m l. act inp false other (isRules (m .sec)) m l) (record { state = st; class = 5; closed = 0; reason = rs; piece = s .line + 1 }) w′ f′
-      way-refused {n} q es er m hs =
-          let o : Read Network = lineStep (s .section) (fieldsAt (take end text) (s .at)) (m .recs) in
-          let r = after-refused text w w′ f f′ o k n (ens (m .recs) (hs .recs)) q in
-          becomes (filed-is end a b z m hs ∙ ap filed (verdict-bad o (r .0))) (rw (es, er) (refused-step hs (fit .more) e he (not-own a) (p .sec (s .section)) n (r .1) (r .2)))
-
-    -- ---- plain
-    pub way-passed : {r : Turn} → passesOver (s .section) ≡ true → r ≡ record { state = movedTo s (s .section) (s .counts) e; class = 3; closed = 0; reason = 0; piece = 0 }
-        → Goes text s w f (λ m l. act inp false other (isRules (m .sec)) m l) r w f
-    unfolding stillClass code
-    way-passed b er m hs =
-        becomes (passes m here (s .section) (hs .sec) b)
-        (rw er (still-step hs (fit .more) e he isPassed (s .section) (not-own (passed-over (s .section) [] (m .recs) b .0)) (p .sec (s .section))))
-
-    pub way-joins : {st : State} → isRules (s .section) ≡ true → st ≡ joinedTo s e
-        → Goes text s w f (λ m l. act inp false other (isRules (m .sec)) m l) (record { state = st; class = 8; closed = 0; reason = 0; piece = 0 }) w f
-    way-joins a es m hs =
-        becomes (joining m here (s .section) (hs .sec) a)
-        (rw es (joins-step hs (fit .more) e he (p .own (s .section) ∙ a) (p .sec (s .section)) (own-rules other (s .section) a)))
-
-    -- ---- a line that starts with RULE
-    start-other : (m : Model) (l : Line) (t : Bool) → isRules (m .sec) ≡ t → (t ≡ true → m .group ≡ [])
-        → act inp false start (isRules (m .sec)) m l ≡ act inp false other (isRules (m .sec)) m l
-    unfolding act ifOpen
-    start-other m l true a b = rw (a, b refl)
-    start-other m l false a b = rw a
-
-    pub way-start : {r : Turn} {w′ : List ℕ} {f′ : List Float} → cond (isRules (s .section)) (s .grouped) false ≡ false
-        → Goes text s w f (λ m l. act inp false other (isRules (m .sec)) m l) r w′ f′
-        → Goes text s w f (λ m l. act inp false start (isRules (m .sec)) m l) r w′ f′
-    way-start z go m hs =
-        becomes (start-other m here (isRules (s .section)) (ap isRules (hs .sec)) (λ a. hs .none (rw a at z))) (go m hs)
-
-    ending : (m : Model) (l : Line) → Carries text s w f m → isRules (s .section) ≡ true → s .grouped ≡ true
-        → act inp false start (isRules (m .sec)) m l ≡ closes (shut inp m) last
-    unfolding act
-    ending m l hs a g =
-        let st = hs .group g .stretch in
-        rw (ap isRules (hs .sec) ∙ a) (is-open {X = Outcome Section Network} (m .group) (st .named) (st .some) (closes (shut inp m) last) joins)
-
-    pub way-ends : {r : Turn} {w′ : List ℕ} {f′ : List Float} → isRules (s .section) ≡ true → s .grouped ≡ true
-        → Goes text s w f (λ m l. closes (shut inp m) (ownLine true (m .sec))) r w′ f′
-        → Goes text s w f (λ m l. act inp false start (isRules (m .sec)) m l) r w′ f′
-    way-ends a g go m hs = becomes (ending m here hs a g) (go m hs)
-
-  -- ---- a blank line
+  -- it closes nothing
   blanks : (m : Model) (l : Line) (t : Bool) → m .group ≡ [] → act inp false empty t m l ≡ still isBlank (m .sec)
   unfolding act ifOpen
   blanks m l t z = rw z
 
-  blank-shuts : (m : Model) (l : Line) (t : Bool) → Carries text s w f m → s .grouped ≡ true → act inp false empty t m l ≡ closes (shut inp m) (itself isBlank (m .sec))
-  unfolding act
-  blank-shuts m l t hs g =
-      let st = hs .group g .stretch in
-      is-open {X = Outcome Section Network} (m .group) (st .named) (st .some) (closes (shut inp m) (itself isBlank (m .sec))) (still isBlank (m .sec))
-
-  pub way-blank : {r : Turn} → sortOf (bodyAt text (s .at)) ≡ empty → s .grouped ≡ false
-      → r ≡ record { state = movedTo s (s .section) (s .counts) e; class = 1; closed = 0; reason = 0; piece = 0 }
-      → Goes text s w f (λ m l. act inp false empty (isRules (m .sec)) m l) r w f
-  unfolding stillClass code
-  way-blank z g er m hs =
-      becomes (blanks m here (isRules (m .sec)) (hs .none g) ∙ ap (still isBlank) (hs .sec))
-      (rw er (still-step hs (fit .more) e he isBlank (s .section) (rw z) (rw z)))
-
-  pub way-shut : {r : Turn} {w′ : List ℕ} {f′ : List Float} → s .grouped ≡ true
-      → Goes text s w f (λ m l. closes (shut inp m) (ownLine false (m .sec))) r w′ f′
-      → Goes text s w f (λ m l. act inp false empty (isRules (m .sec)) m l) r w′ f′
-  way-shut g go m hs = becomes (blank-shuts m here (isRules (m .sec)) hs g) (go m hs)
-
-  -- ---- any line
   headed : (m : Model) (l : Line) (t : Bool) (x : Section) → act inp false (heading x) t m l ≡ still isHeader x
   unfolding act
   headed m l t x = refl
 
-  module _ {k : Sort} (ek : sortIn k ≡ sortOf (drop (s .at) (take e text))) where
-    pub sort-is : {x : Sort} → k ≡ x → sortOf (bodyAt text (s .at)) ≡ sortIn x
-    sort-is z = sym (ek ∙ ap sortOf (drop-take (s .at) e text ∙ body-is text (s .at) e (fit .more) he)) ∙ ap sortIn z
+  plain-in : isRules (s .section) ≡ true → plainTurn s e ≡ quiet (joinedTo s e) 8
+  plain-in a = rw a
 
-    pub plain-start : k ≡ sort.Start → Plain (sortOf (bodyAt text (s .at)))
-    plain-start z = record { own = λ x. rw (sort-is z); sec = λ x. rw (sort-is z) }
+  plain-over : isRules (s .section) ≡ false → plainTurn s e ≡ quiet (movedTo s (s .section) (s .counts) e) 3
+  plain-over a = rw a
 
-    pub plain-other : k ≡ sort.Other → Plain (sortOf (bodyAt text (s .at)))
-    plain-other z = record { own = λ x. rw (sort-is z); sec = λ x. rw (sort-is z) }
-
-    steps : {x : Sort} → k ≡ x → (m : Model) → step inp false m here ≡ act inp false (sortIn x) (isRules (m .sec)) m here
+  module _ (k : Sort) (ek : sortOf (bodyAt text (s .at)) ≡ sortIn k) where
+    steps : (m : Model) → step inp false m here ≡ act inp false (sortIn k) (isRules (m .sec)) m here
     unfolding step inp
-    steps z m = ap (λ y. act inp false y (isRules (m .sec)) m here) (sort-is z)
+    steps m = ap (λ y. act inp false y (isRules (m .sec)) m here) ek
 
-    pub way-any : {r : Turn} {w′ : List ℕ} {f′ : List Float} {x : Sort} → k ≡ x → Goes text s w f (λ m l. act inp false (sortIn x) (isRules (m .sec)) m l) r w′ f′
-        → Goes text s w f (step inp false) r w′ f′
-    way-any z go m hs = becomes (steps z m) (go m hs)
+    own-is : {x : Sort} → k ≡ x → ownBy isRules (sortOf (bodyAt text (s .at))) (s .section) ≡ ownBy isRules (sortIn x) (s .section)
+    own-is q = ap (λ y. ownBy isRules y (s .section)) (ek ∙ ap sortIn q)
 
-    pub way-header : {r : Turn} {x : Section} → k ≡ sort.Heading x → r ≡ record { state = movedTo s x (s .counts) e; class = 2; closed = 0; reason = 0; piece = 0 } → Goes text s w f (step inp false) r w f
+    sec-is : {x : Sort} → k ≡ x → secBy (sortOf (bodyAt text (s .at))) (s .section) ≡ secBy (sortIn x) (s .section)
+    sec-is q = ap (λ y. secBy y (s .section)) (ek ∙ ap sortIn q)
+
+    steps-as : {x : Sort} → k ≡ x → (m : Model) → step inp false m here ≡ act inp false (sortIn x) (isRules (m .sec)) m here
+    steps-as q m = steps m ∙ ap (λ y. act inp false (sortIn y) (isRules (m .sec)) m here) q
+
+    pub way-closes : {d : Bool} {r : Turn} {w′ : List ℕ} {f′ : List Float} → closesBy (sortIn k) (s .section) (s .grouped) ≡ true → d ≡ ownBy isRules (sortIn k) (s .section)
+        → Goes text s w f (λ m l. closes (shut inp m) (ownLine d (m .sec))) r w′ f′ → Goes text s w f (step inp false) r w′ f′
+    way-closes z ed go m hs = becomes (steps m ∙ closing (sortIn k) z m here hs ∙ ap (λ y. closes (shut inp m) (ownLine y (m .sec))) (sym ed)) (go m hs)
+
+    pub way-header : {r : Turn} {x : Section} → k ≡ sort.Heading x → r ≡ quiet (movedTo s x (s .counts) e) 2 → Goes text s w f (step inp false) r w f
     unfolding stillClass code
-    way-header {x = x} z er m hs =
-        becomes (steps z m ∙ headed m here (isRules (m .sec)) x)
-        (rw er (still-step hs (fit .more) e he isHeader x (ap (λ y. ownBy isRules y (s .section)) (sort-is z)) (ap (λ y. secBy y (s .section)) (sort-is z))))
+    way-header {x = x} q er m hs =
+        becomes (steps-as q m ∙ headed m here (isRules (m .sec)) x) (rw er (still-step hs (fit .more) e he isHeader x (own-is q) (sec-is q)))
 
-  -- ---- a line whose first byte tells what it is
-  module _ (b : plainBy (startTrimmed (drop (s .at) (take e text))) ≡ true) where
-    its-sort : sortIn sort.Other ≡ sortOf (drop (s .at) (take e text))
-    its-sort = plain-sort (take e text) (s .at) (startAt (take e text) (s .at)) refl b
+    module _ (z : closesBy (sortIn k) (s .section) (s .grouped) ≡ false) where
+      pub way-blank : {r : Turn} → k ≡ sort.Empty → r ≡ quiet (movedTo s (s .section) (s .counts) e) 1 → Goes text s w f (step inp false) r w f
+      unfolding stillClass code
+      way-blank q er m hs =
+          let g : s .grouped ≡ false = sym (ap (λ y. closesBy (sortIn y) (s .section) (s .grouped)) q) ∙ z in
+          becomes (steps-as q m ∙ blanks m here (isRules (m .sec)) (hs .none g) ∙ ap (still isBlank) (hs .sec))
+          (rw er (still-step hs (fit .more) e he isBlank (s .section) (own-is q) (sec-is q)))
 
-    plain-by : Plain (sortOf (bodyAt text (s .at)))
-    plain-by = plain-other {k = sort.Other} its-sort refl
+      pub way-plain : {r : Turn} → isData (sortIn k) ≡ true → Unstored (sortIn k) (s .section) → r ≡ plainTurn s e → Goes text s w f (step inp false) r w f
+      unfolding stillClass code
+      way-plain {r} d u er m hs = go (isRules (s .section)) refl
+        where
+          acts : step inp false m here ≡ act inp false other (isRules (m .sec)) m here
+          acts = steps m ∙ as-other (sortIn k) d z m here hs
 
-    way-by : {r : Turn} {w′ : List ℕ} {f′ : List Float} → Goes text s w f (λ m l. act inp false other (isRules (m .sec)) m l) r w′ f′ → Goes text s w f (step inp false) r w′ f′
-    way-by go = way-any {k = sort.Other} its-sort refl go
+          own : ownBy isRules (sortOf (bodyAt text (s .at))) (s .section) ≡ isRules (s .section)
+          own = own-is refl ∙ data-own (sortIn k) d (s .section)
+
+          sec : secBy (sortOf (bodyAt text (s .at))) (s .section) ≡ s .section
+          sec = sec-is refl ∙ data-sec (sortIn k) d (s .section)
+
+          go : (t : Bool) → isRules (s .section) ≡ t → Stepped text s here m (step inp false m here) r w f
+          go true a =
+              let q : r ≡ quiet (joinedTo s e) 8 = er ∙ plain-in a in
+              becomes (acts ∙ joining m here (s .section) (hs .sec) a) (rw q (joins-step hs (fit .more) e he (own ∙ a) sec (own-rules other (s .section) a)))
+          go false a =
+              let q : r ≡ quiet (movedTo s (s .section) (s .counts) e) 3 = er ∙ plain-over a in
+              becomes (acts ∙ passes m here (s .section) (hs .sec) (u d a)) (rw q (still-step hs (fit .more) e he isPassed (s .section) (own ∙ a) sec))
 
   -- ---- a line that joins the open group
-  pub way-joined : {st : State} → joinedBy (plainBy (startTrimmed (drop (s .at) (take e text)))) (s .section) (s .grouped) ≡ true → st ≡ movedTo s (s .section) (s .counts) e
-      → Goes text s w f (step inp false) (record { state = st; class = 8; closed = 0; reason = 0; piece = 0 }) w f
-  way-joined b es =
-      let j = to-join (plainBy (startTrimmed (drop (s .at) (take e text)))) (s .section) (s .grouped) b in
-      way-by (j .0) (way-joins (plain-by (j .0)) (j .1) (es ∙ joined-open s e (j .2)))
-
-  -- ---- a line that is stored at once
-  module _ (b : filedBy (plainBy (startTrimmed (drop (s .at) (take e text)))) (s .section) ≡ true) where
-    pub at-once-told : (plainBy (startTrimmed (drop (s .at) (take e text))) ≡ true) × (isRules (s .section) ≡ false) × (passesOver (s .section) ≡ false)
-    at-once-told = at-once (plainBy (startTrimmed (drop (s .at) (take e text)))) (s .section) b
-
-    pub plain-told : Plain (sortOf (bodyAt text (s .at)))
-    plain-told = plain-by (at-once-told .0)
-
-    pub way-told : {r : Turn} {w′ : List ℕ} {f′ : List Float} → Goes text s w f (λ m l. act inp false other (isRules (m .sec)) m l) r w′ f′ → Goes text s w f (step inp false) r w′ f′
-    way-told go = way-by (at-once-told .0) go
-
-    module _ {w′ : List ℕ} {f′ : List Float} {kept : Kept} {end : ℕ} (z : end ≡ s .at + length (cutOf (drop (s .at) (take e text))))
-        (ens : (n : Network) → Holds text n (s .counts) w f → After text (lineStep (s .section) (fieldsAt (take end text) (s .at)) n) kept w f w′ f′) where
-      pub way-stored : {c : Counts} {st : State} → kept ≡ Stored c → st ≡ movedTo s (s .section) c e
-          → Goes text s w f (step inp false) (record { state = st; class = 4; closed = 0; reason = 0; piece = s .line + 1 }) w′ f′
-      way-stored q es = way-told (way-taken plain-told (at-once-told .1) (at-once-told .2) z ens q es)
-
-      pub way-unstored : {n : Reason} → kept ≡ Refused n
-          → Goes text s w f (step inp false) (record { state = movedTo s (s .section) (s .counts) e; class = 5; closed = 0; reason = reasonNo n; piece = s .line + 1 }) w′ f′
-      way-unstored q = way-told (way-refused plain-told (at-once-told .1) (at-once-told .2) z ens q refl refl)
+  pub way-joined : {st : State} → isRules (s .section) ≡ true → s .grouped ≡ true → plainBy (startTrimmed (drop (s .at) (take e text))) ≡ true → st ≡ movedTo s (s .section) (s .counts) e
+      → Goes text s w f (step inp false) (quiet st 8) w f
+  way-joined a g b es =
+      let k : sortOf (bodyAt text (s .at)) ≡ other = sort-here (plain-sort (take e text) (s .at) (startAt (take e text) (s .at)) refl b) in
+      way-plain sort.Other k refl refl (λ _ y. never (sym y ∙ a)) (ap (λ x. quiet x 8) (es ∙ joined-open s e g) ∙ sym (plain-in a))

@@ -9,7 +9,7 @@ use lib.Ieee.{Float}
 use Rattle.scope_lines.specs.Reader as L
 use Rattle.scope_lines.specs.Reader.{Standing, Outcome, Own, itself, last, isBlank, next}
 use Rattle.scope_lines.specs.Text.{Line, lineAt}
-use Rattle.scope_lines.specs.Stretch.{Stretch, ownBy, secBy}
+use Rattle.scope_lines.specs.Stretch.{Stretch}
 use Rattle.scope_lines.specs.Turn.{Tells}
 use Rattle.scope.specs.declared.Section.{Section}
 use Rattle.scope.specs.declared.Section.the-variants.{Rules, Passed}
@@ -18,8 +18,8 @@ use Rattle.scope.specs.Sections.{isRules, roomText}
 use Rattle.scope.specs.Records.{Network, noNetwork, countsOf}
 use Rattle.scope.specs.Lines.{sortOf, ruleFields}
 use Rattle.table_rows.specs.Holding.{Holds}
-use Rattle.read_headers.specs.Own.{groupFields}
-use Rattle.read_sections.specs.Storing.{passesOver}
+use Rattle.read_headers.specs.Own.{isData, groupFields}
+use Rattle.read_headers.specs.Sections.{passesOver}
 use Rattle.read_steps.specs.declared.State.{State}
 use Rattle.read_steps.specs.declared.Turn.{Turn}
 
@@ -77,10 +77,24 @@ abbrev pub ownLine : Bool → Section → Own Section
 ownLine true s = last
 ownLine false s = itself isBlank s
 
--- a line that is neither blank nor a header
-pub record Plain (k : L.Sort Section) : Type 0 where
-  pub own : (s : Section) → ownBy isRules k s ≡ isRules s
-  pub sec : (s : Section) → secBy k s ≡ s
+-- whether a line closes the group that is open: a blank one does, and in RULES one that starts with RULE; a header closes nothing
+abbrev pub closesBy : L.Sort Section → Section → Bool → Bool
+closesBy L.empty x g = g
+closesBy (L.heading y) x g = false
+closesBy L.start x g = cond (isRules x) g false
+closesBy L.other x g = false
+
+-- a line that no section stores: blank, a header, of RULES, or of a section that is passed over
+abbrev pub Unstored : L.Sort Section → Section → Type 0
+Unstored k x = isData k ≡ true → isRules x ≡ false → passesOver x ≡ true
+
+-- a line of class k that closes no group and is not refused, and takes the state to s
+abbrev pub quiet : State → ℕ → Turn
+quiet s k = record { state = s; class = k; closed = 0; reason = 0; piece = 0 }
+
+-- such a line, neither blank nor a header, where no section stores it: it joins its group, or is passed over
+abbrev pub plainTurn : State → ℕ → Turn
+plainTurn s e = cond (isRules (s .section)) (quiet (joinedTo s e) 8) (quiet (movedTo s (s .section) (s .counts) e) 3)
 
 -- line l, whose outcome is o, takes s and m to r
 pub record Stepped (text : List ℕ) (s : State) (l : Line) (m : Model) (o : Outcome Section Network) (r : Turn) (w : List ℕ) (f : List Float) : Type 0 where
@@ -94,11 +108,3 @@ abbrev pub Goes : List ℕ → State → List ℕ → List Float → (Model → 
 Goes text s w f φ r w′ f′ =
     (m : Model) → Carries text s w f m
     → Stepped text s (lineAt text (s .at) (s .line + 1)) m (φ m (lineAt text (s .at) (s .line + 1))) r w′ f′
-
--- a line is stored at once: it is told to be neither blank nor a header nor a group's start, and the section stores
-abbrev pub filedBy : Bool → Section → Bool
-filedBy plain s = cond (isRules s) false (cond (passesOver s) false plain)
-
--- a line joins a group that is open: it is told to be neither blank nor a header nor a group's start, and the section is RULES
-abbrev pub joinedBy : Bool → Section → Bool → Bool
-joinedBy plain s grouped = cond grouped (cond (isRules s) plain false) false

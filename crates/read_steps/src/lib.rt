@@ -2,16 +2,15 @@
 ghost use mathlib.Core.Path.{_≡_};
 ghost use mathlib.Core.Bool.{true, false, cond};
 ghost use Prim.Native.Nat.{_+_, _<_};
-ghost use lib.ListN.{length, take, drop};
-ghost use Rattle.leaf_scans.specs.Lines.{lineLen, startTrimmed, cutOf};
-ghost use Rattle.scope_lines.specs.Reader.{act, step, empty, start, other, closes, shut};
+ghost use lib.ListN.{drop};
+ghost use Rattle.leaf_scans.specs.Lines.{lineLen};
+ghost use Rattle.scope_lines.specs.Reader.{step, closes, shut};
 ghost use Rattle.scope_lines.specs.Text.{bodyAt};
-ghost use Rattle.scope.specs.Sections.{isRules, roomLines};
+ghost use Rattle.scope.specs.Sections.{roomLines};
 ghost use Rattle.scope.specs.Records.{noNetwork, countsOf};
 ghost use Rattle.scope.specs.Lines.{sortOf, inp};
-ghost use Rattle.read_sections.specs.Storing.{passesOver};
-ghost use Rattle.read_headers.specs.Own.{sortIn, plainBy};
-ghost use Rattle.read_steps.specs.Held.{Fits, Plain, Goes, ownLine, movedTo, joinedTo, shutTo, newState, filedBy, joinedBy};
+ghost use Rattle.read_headers.specs.Own.{sortIn};
+ghost use Rattle.read_steps.specs.Held.{Fits, Unstored, Goes, ownLine, movedTo, joinedTo, shutTo, newState, quiet, plainTurn, closesBy};
 use read_headers::Sort;
 use scope::Counts;
 use scope::Section;
@@ -181,7 +180,7 @@ fn close(
 // A line that does nothing but perhaps set the section.
 fn still(s: State, section: Section, e: usize, class: u8) -> Turn
     requires { ⌜ s .line < roomLines ⌝ }
-    ensures { λ r. ⌜ r ≡ record { state = movedTo s section (s .counts) e; class = class; closed = 0; reason = 0; piece = 0 } ⌝ }
+    ensures { λ r. ⌜ r ≡ quiet (movedTo s section (s .counts) e) class ⌝ }
 {
     let counts = s.counts;
     Turn {
@@ -193,52 +192,10 @@ fn still(s: State, section: Section, e: usize, class: u8) -> Turn
     }
 }
 
-// A line of a section that stores: it is cut at its first `;`.
-fn filed(
-    text: &[u8],
-    s: State,
-    e: usize,
-    cut: usize,
-    words: &mut [u64],
-    numbers: &mut [f64],
-) -> Turn
-    requires { ⌜ Fits (now text) s (now words) (now numbers) × (e ≡ s .at + lineLen (drop (s .at) (now text))) × (cut ≡ s .at + length (cutOf (drop (s .at) (take e (now text))))) × Plain (sortOf (bodyAt (now text) (s .at)))
-        × (isRules (s .section) ≡ false) × (passesOver (s .section) ≡ false) ⌝ }
-    ensures { λ r. ⌜ Goes (now (text .entry)) s (now (words .entry)) (now (numbers .entry)) (λ m l. act inp false other (isRules (m .sec)) m l) r (now (words .exit)) (now (numbers .exit)) ⌝ }
-{
-    let at = s.at;
-    let section = s.section;
-    let counts = s.counts;
-    let k = read_sections::store_line(section, text, at, cut, counts, words, numbers);
-    match k {
-        Kept::Stored(c) => Turn {
-            state: s.moved(section, c, e),
-            class: table_codes::TAKEN,
-            closed: 0,
-            reason: 0,
-            piece: s.line + 1,
-        },
-        Kept::Refused(r) => Turn {
-            state: s.moved(section, counts, e),
-            class: table_codes::REFUSED,
-            closed: 0,
-            reason: table_codes::reason_number(r),
-            piece: s.line + 1,
-        },
-    }
-}
-
-// A line that is not blank, no header, and closes nothing.
-fn plain(
-    text: &[u8],
-    s: State,
-    e: usize,
-    cut: usize,
-    words: &mut [u64],
-    numbers: &mut [f64],
-) -> Turn
-    requires { ⌜ Fits (now text) s (now words) (now numbers) × (e ≡ s .at + lineLen (drop (s .at) (now text))) × (cut ≡ s .at + length (cutOf (drop (s .at) (take e (now text))))) × Plain (sortOf (bodyAt (now text) (s .at))) ⌝ }
-    ensures { λ r. ⌜ Goes (now (text .entry)) s (now (words .entry)) (now (numbers .entry)) (λ m l. act inp false other (isRules (m .sec)) m l) r (now (words .exit)) (now (numbers .exit)) ⌝ }
+// A line that is neither blank nor a header and closes nothing: in RULES it joins its group, elsewhere it is passed over.
+fn plain(s: State, e: usize) -> Turn
+    requires { ⌜ s .line < roomLines ⌝ }
+    ensures { λ r. ⌜ r ≡ plainTurn s e ⌝ }
 {
     let section = s.section;
     if read_headers::in_rules(section) {
@@ -250,111 +207,58 @@ fn plain(
             piece: 0,
         };
     }
-    if read_sections::passes_over(section) {
-        return still(s, section, e, table_codes::PASSED);
-    }
-    filed(text, s, e, cut, words, numbers)
+    still(s, section, e, table_codes::PASSED)
 }
 
-// A blank line closes the open group.
-fn blank(text: &[u8], s: State, e: usize, words: &mut [u64], numbers: &mut [f64]) -> Turn
-    requires { ⌜ Fits (now text) s (now words) (now numbers) × (e ≡ s .at + lineLen (drop (s .at) (now text))) × (sortOf (bodyAt (now text) (s .at)) ≡ empty) ⌝ }
-    ensures { λ r. ⌜ Goes (now (text .entry)) s (now (words .entry)) (now (numbers .entry)) (λ m l. act inp false empty (isRules (m .sec)) m l) r (now (words .exit)) (now (numbers .exit)) ⌝ }
+// Whether a line closes the open group: a blank one does, and in RULES one that starts with RULE.
+fn closes(k: Sort, section: Section, grouped: bool) -> bool
+    ensures { λ r. ⌜ r ≡ closesBy (sortIn k) section grouped ⌝ }
 {
-    if s.grouped {
-        return close(text, s, e, false, words, numbers);
+    match k {
+        Sort::Empty => grouped,
+        Sort::Heading(_) => false,
+        Sort::Start => {
+            if read_headers::in_rules(section) {
+                return grouped;
+            }
+            false
+        }
+        Sort::Other => false,
     }
-    let section = s.section;
-    still(s, section, e, table_codes::BLANK)
 }
 
-// Whether a RULE line would close a group.
-fn ends(s: State) -> bool
-    ensures { λ r. ⌜ r ≡ cond (isRules (s .section)) (s .grouped) false ⌝ }
-{
-    let section = s.section;
-    if read_headers::in_rules(section) {
-        return s.grouped;
-    }
-    false
-}
-
-// A line that starts with RULE closes the open group, in RULES, and is dropped.
-fn starting(
-    text: &[u8],
-    s: State,
-    e: usize,
-    cut: usize,
-    words: &mut [u64],
-    numbers: &mut [f64],
-) -> Turn
-    requires { ⌜ Fits (now text) s (now words) (now numbers) × (e ≡ s .at + lineLen (drop (s .at) (now text))) × (cut ≡ s .at + length (cutOf (drop (s .at) (take e (now text))))) × Plain (sortOf (bodyAt (now text) (s .at))) ⌝ }
-    ensures { λ r. ⌜ Goes (now (text .entry)) s (now (words .entry)) (now (numbers .entry)) (λ m l. act inp false start (isRules (m .sec)) m l) r (now (words .exit)) (now (numbers .exit)) ⌝ }
-{
-    if ends(s) {
-        return close(text, s, e, true, words, numbers);
-    }
-    plain(text, s, e, cut, words, numbers)
-}
-
-// The next line, which is of the sort `k`, ends at `e` and is cut at `cut`.
+// The next line, which is of the sort `k` and ends at `e`. A RULE line that closes a group is the group's own.
 fn take_turn(
     text: &[u8],
     s: State,
     e: usize,
-    cut: usize,
     k: Sort,
     words: &mut [u64],
     numbers: &mut [f64],
 ) -> Turn
-    requires { ⌜ Fits (now text) s (now words) (now numbers) × (e ≡ s .at + lineLen (drop (s .at) (now text))) × (cut ≡ s .at + length (cutOf (drop (s .at) (take e (now text))))) × (sortIn k ≡ sortOf (drop (s .at) (take e (now text)))) ⌝ }
+    requires { ⌜ Fits (now text) s (now words) (now numbers) × (e ≡ s .at + lineLen (drop (s .at) (now text))) × (sortOf (bodyAt (now text) (s .at)) ≡ sortIn k) × Unstored (sortIn k) (s .section) ⌝ }
     ensures { λ r. ⌜ Goes (now (text .entry)) s (now (words .entry)) (now (numbers .entry)) (step inp false) r (now (words .exit)) (now (numbers .exit)) ⌝ }
 {
+    let section = s.section;
+    if closes(k, section, s.grouped) {
+        let own = read_headers::own_by(k, section);
+        return close(text, s, e, own, words, numbers);
+    }
     match k {
-        Sort::Empty => blank(text, s, e, words, numbers),
+        Sort::Empty => still(s, section, e, table_codes::BLANK),
         Sort::Heading(x) => still(s, x, e, table_codes::HEADER),
-        Sort::Start => starting(text, s, e, cut, words, numbers),
-        Sort::Other => plain(text, s, e, cut, words, numbers),
+        Sort::Start => plain(s, e),
+        Sort::Other => plain(s, e),
     }
 }
 
-// Whether the line of `l` from `at` on is stored at once, in a section.
-fn is_filed(l: &[u8], at: usize, section: Section) -> bool
-    ensures { λ r. ⌜ r ≡ filedBy (plainBy (startTrimmed (drop at (now (l .entry))))) section ⌝ }
-{
-    if read_headers::in_rules(section) {
-        return false;
-    }
-    if read_sections::passes_over(section) {
-        return false;
-    }
-    read_headers::is_plain(l, at)
-}
-
-// Whether the line of `l` from `at` on is told to join a group that is open: then only the place and the line's number go on.
-pub fn is_joined(l: &[u8], at: usize, section: Section, grouped: bool) -> bool
-    ensures { λ r. ⌜ r ≡ joinedBy (plainBy (startTrimmed (drop at (now (l .entry))))) section grouped ⌝ }
-{
-    if grouped {
-        if read_headers::in_rules(section) {
-            return read_headers::is_plain(l, at);
-        }
-    }
-    false
-}
-
-// The next line.
+// The next line, where no section stores it.
 pub fn step(text: &[u8], s: State, words: &mut [u64], numbers: &mut [f64]) -> Turn
-    requires { ⌜ Fits (now text) s (now words) (now numbers) ⌝ }
+    requires { ⌜ Fits (now text) s (now words) (now numbers) × Unstored (sortOf (bodyAt (now text) (s .at))) (s .section) ⌝ }
     ensures { λ r. ⌜ Goes (now (text .entry)) s (now (words .entry)) (now (numbers .entry)) (step inp false) r (now (words .exit)) (now (numbers .exit)) ⌝ }
 {
     let at = s.at;
-    let section = s.section;
-    let ends = leaf_scans::line_ends(text, at);
-    let e = ends.end;
-    if is_filed(&text[..e], at, section) {
-        return filed(text, s, e, ends.cut, words, numbers);
-    }
+    let e = leaf_scans::line_end(text, at);
     let k = read_headers::sort_of(&text[..e], at);
-    take_turn(text, s, e, ends.cut, k, words, numbers)
+    take_turn(text, s, e, k, words, numbers)
 }

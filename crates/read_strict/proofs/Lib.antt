@@ -1,4 +1,3 @@
--- What the proofs of several functions use, here and in the survey.
-pub mod StrictLaws
-pub mod RoomLaws
+-- What the proofs of several functions use; and that no second answer fits.
+mod StrictLaws
 pub mod Once

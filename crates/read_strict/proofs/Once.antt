@@ -4,11 +4,8 @@ use mathlib.Core.Path.{_≡_, sym, _∙_}
 use mathlib.Core.List.{List}
 use lib.Ieee.{Float}
 use Rattle.scope.specs.declared.Answer.{Answer}
-use Rattle.read_strict.proofs.RoomLaws.{Read}
-
-pub one : {A : Type 0} {x y z : A} → x ≡ z → y ≡ z → x ≡ y
-one p q = p ∙ sym q
+use Rattle.read_strict.proofs.StrictLaws.{Read}
 
 pub strict-once : (text w : List ℕ) (f : List Float) {a b : Answer} {w₁ w₂ : List ℕ} {f₁ f₂ : List Float}
     → Read text w f a w₁ f₁ → Read text w f b w₂ f₂ → (a ≡ b) × (w₁ ≡ w₂) × (f₁ ≡ f₂)
-strict-once text w f p q = (one (p .0) (q .0), one (p .1) (q .1), one (p .2) (q .2))
+strict-once text w f p q = (p .0 ∙ sym (q .0), p .1 ∙ sym (q .1), p .2 ∙ sym (q .2))

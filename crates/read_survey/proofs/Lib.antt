@@ -1,3 +1,4 @@
--- What the proofs of several functions use.
+-- What the proofs of several functions use; and that no second answer fits.
+mod SurveyLaws
 mod RoomLaws
 mod Once

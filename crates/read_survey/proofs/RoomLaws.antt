@@ -3,7 +3,7 @@ use Prim.Native.Nat.{ℕ, _≤_}
 use native.Mathlib.Omega.{arith}
 use borrow.Author.Tests.{ltb-false}
 use mathlib.Core.Path.{_≡_, refl, sym, ap, _∙_}
-use mathlib.Core.Bool.{Bool, true, false, _||_}
+use mathlib.Core.Bool.{Bool, true, false, _||_, false≢true}
 use mathlib.Core.List.{List, _++_}
 use lib.ListN.{length, take, drop}
 use lib.Seq.{length-take-le}
@@ -19,8 +19,7 @@ use Rattle.scope.specs.Reading.{byText, noSurvey, surveyOf, surveyNetwork, surv
 use Rattle.table_rows.specs.Table.{splice}
 use Rattle.table_rows.specs.Holding.{Holds}
 use Rattle.stored_records.specs.Back.{Stands}
-use Rattle.read_strict.proofs.RoomLaws.{room, back-long, words-left, numbers-left, stands-left}
-use Rattle.read_steps.proofs.StepLaws.{never}
+use Rattle.read_text.proofs.RoomLaws.{room, back-long, words-left, numbers-left, stands-left}
 
 -- ---- room
 survey-room : (w f c r : ℕ) → surveySmall w f c r ≡ false → (roomWords ≤ w) × (roomNumbers ≤ f) × (roomLines ≤ c) × (roomLines ≤ r)
@@ -30,8 +29,8 @@ survey-room w f c r z =
     let q = room w f (p .0) in (q .0, q .1, ltb-false c roomLines (p .1), ltb-false r roomLines (p .2))
   where
     go : (x y v : Bool) → x || y || v ≡ false → (x ≡ false) × (y ≡ false) × (v ≡ false)
-    go true y v e = never (sym e)
-    go false true v e = never (sym e)
+    go true y v e = absurd (false≢true (sym e))
+    go false true v e = absurd (false≢true (sym e))
     go false false v e = (refl, refl, e)
 
 module _ (w : List ℕ) (f : List Float) (c r : List ℕ) (z : surveySmall (length w) (length f) (length c) (length r) ≡ false) where
@@ -62,7 +61,7 @@ module _ (text w : List ℕ) (f : List Float) (c r : List ℕ) where
 
   pub survey-small : {a : Survey} → surveySmall (length w) (length f) (length c) (length r) ≡ true → a ≡ noSurvey 28 → Seen a w f c r
   unfolding surveyAnswer surveyWords surveyNumbers surveyClasses surveyReasons
-  survey-small z e = rw z (e, refl, refl, refl, refl, λ q. never (sym q))
+  survey-small z e = rw z (e, refl, refl, refl, refl, λ q. absurd (false≢true (sym q)))
 
   pub survey-read : {a : Survey} {n : Counts} {x w′ c′ r′ cs rs : List ℕ} {y f′ : List Float} → surveySmall (length w) (length f) (length c) (length r) ≡ false
       → a ≡ byText text (noSurvey 20) (noSurvey 21) (surveyOf text) → Holds text (surveyNetwork text) n x y

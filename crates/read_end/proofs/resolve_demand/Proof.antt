@@ -46,15 +46,16 @@ mul-words : tie.Need-mul-words
 mul-words c = omega (arith, c .before .before .before .before .pre .2, bound-demands (c .before .before .before .before .pre .1 .holds), sound-words (c .before .before .before .before .pre .1))
 
 slice-write-words : tie.Need-slice-write-words
-slice-write-words c = omega (arith, c .before .before .before .before .pre .2, bound-demands (c .before .before .before .before .pre .1 .holds), sound-words (c .before .before .before .before .pre .1))
-
-same-length : tie.Need-same-length
-same-length c = search needs
+slice-write-words c =
+    let c4 = c .before .before .before .before in
+    omega (arith, c4 .pre .2, bound-demands (c4 .pre .1 .holds), sound-words (c4 .pre .1))
 
 returns : tie.Need-returns
 returns c =
-    λ m f h. demand-set h (c .before .before .before .before .args .k) (c .before .before .before .before .pre .2) _ (omega (arith, c .before .before .before .before .pre .2, bound-demands (c .before .before .before .before .pre .1 .holds), sound-words (c .before .before .before .before .pre .1)))
-    (c .pattern-index .ensures m (getD (m .demands) (c .before .before .before .before .args .k) noDemand .pattern) (h .words) (count-patterns h) (demand-sits h (c .before .before .before .before .args .k) (c .before .before .before .before .pre .2)) (demand-name h (c .before .before .before .before .args .k) (c .before .before .before .before .pre .2)))
+    let c4 = c .before .before .before .before in
+    λ m f h. demand-set h (c4 .args .k) (c4 .pre .2) _ (omega (arith, c4 .pre .2, bound-demands (c4 .pre .1 .holds), sound-words (c4 .pre .1)))
+    (c .pattern-index .ensures m (getD (m .demands) (c4 .args .k) noDemand .pattern) (h .words) (count-patterns h) (demand-sits h (c4 .args .k) (c4 .pre .2))
+    (demand-name h (c4 .args .k) (c4 .pre .2)))
 
 pub resolve-demand-spec : {M : Type 1} → statement M
 resolve-demand-spec =
@@ -73,5 +74,5 @@ resolve-demand-spec =
     add-words
     mul-words
     slice-write-words
-    same-length
+    (λ c. search needs)
     returns)

@@ -8,10 +8,10 @@ resolve-nodes-requires : tie.Need-resolve-nodes-requires
 resolve-nodes-requires c κs = c .before .before .before .pre
 
 resolve-demands-requires : tie.Need-resolve-demands-requires
-resolve-demands-requires c κs = (c .before .before .before .before .before .before .before .pre .0, record { m = _; holds = c .before .before .before .resolve-nodes .ensures (c .before .before .before .before .before .before .before .pre .1 .m) (c .before .before .before .before .before .before .before .pre .0) (c .before .before .before .before .before .before .before .pre .1 .holds) })
-
-same-length : tie.Need-same-length
-same-length c = search needs
+resolve-demands-requires c κs =
+    let c3 = c .before .before .before in
+    let c7 = c3 .before .before .before .before in
+    (c7 .pre .0, record { m = _; holds = c3 .resolve-nodes .ensures (c7 .pre .1 .m) (c7 .pre .0) (c7 .pre .1 .holds) })
 
 returns : tie.Need-returns
 returns c = λ m f h. rw (← both-resolved m) (c .before .before .resolve-demands .ensures _ f (c .before .before .before .before .before .before .resolve-nodes .ensures m f h))
@@ -22,5 +22,5 @@ resolve-pattern-indices-spec =
     (tie.spec
     resolve-nodes-requires
     resolve-demands-requires
-    same-length
+    (λ c. search needs)
     returns)

@@ -33,14 +33,8 @@ not-rules Times h = refl
 not-rules Rules h = absurd (miss others 12 tt h)
 not-rules Passed h = refl
 
-enum-told : tie.Need-enum-told
-enum-told c = search needs
-
-returns : tie.Need-returns
-returns c = search needs
-
 returns-2 : tie.Need-returns-2
 returns-2 c = not-rules (c .before .args .s) (c .match .keys2)
 
 pub in-rules-spec : {M : Type 1} → statement M
-in-rules-spec = tie.close (tie.spec enum-told returns returns-2)
+in-rules-spec = tie.close (tie.spec (λ c. search needs) (λ c. search needs) returns-2)

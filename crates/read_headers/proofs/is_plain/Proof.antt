@@ -5,16 +5,10 @@ use borrow.Author.Needs.{needs}
 use Rattle.read_headers.proofs.is_plain.Statement.{statement}
 use Rattle.read_headers.proofs.is_plain.Tie as tie
 
-field-start-requires : tie.Need-field-start-requires
-field-start-requires c κs = search needs
-
 returns : tie.Need-returns
 returns c =
     let a = c .before .before .before .args in
     plain-nothing (now (a .l)) (a .at) _ (c .before .field-start .ensures) (c .if1 .taken)
-
-shared-slice-read-match : tie.Need-shared-slice-read-match
-shared-slice-read-match c = search needs
 
 returns-2 : tie.Need-returns-2
 returns-2 c =
@@ -45,9 +39,9 @@ pub is-plain-spec : {M : Type 1} → statement M
 is-plain-spec =
     tie.close
     (tie.spec
-    field-start-requires
+    (λ c κs. search needs)
     returns
-    shared-slice-read-match
+    (λ c. search needs)
     returns-2
     returns-3
     returns-4

@@ -24,29 +24,37 @@ abbrev μ-loop : tie.MeasureT-loop
 loop-holds : tie.Need-loop-holds Inv-loop μ-loop
 loop-holds c = (refl, omega arith)
 
-line-end-requires : tie.Need-line-end-requires Inv-loop μ-loop
-line-end-requires c κs = search needs
-
-cut-requires : tie.Need-cut-requires Inv-loop μ-loop
-cut-requires c κs = search needs
-
-sort-of-requires : tie.Need-sort-of-requires Inv-loop μ-loop
-sort-of-requires c κs = search needs
-
-own-by-requires : tie.Need-own-by-requires Inv-loop μ-loop
-own-by-requires c κs = search needs
-
 returns : tie.Need-returns Inv-loop μ-loop
-returns c = told-own (now (c .before .before .before .before .before .before .before .before .args .text)) (c .before .before .before .before .before .before .loop .p) (c .before .before .before .before .line-end .result) (omega arith) (c .before .before .before .before .line-end .ensures) (c .before .before .before .before .before .before .loop .section) (c .before .before .before .before .before .before .loop .inv) _ (now (c .before .before .before .cut .result)) _ (c .before .before .before .cut .ensures) (c .before .before .sort-of .ensures) (c .before .own-by .ensures) (c .if1 .taken)
-
-section-by-requires : tie.Need-section-by-requires Inv-loop μ-loop
-section-by-requires c κs = search needs
+returns c =
+    let c3 = c .before .before .before in
+    let c6 = c3 .before .before .before in
+    let args = c6 .before .before .args in
+    let loop = c6 .loop in
+    let line-end = c3 .before .line-end in
+    let cut = c3 .cut in
+    let sort-of = c .before .before .sort-of in
+    told-own (now (args .text)) (loop .p) (line-end .result) (omega arith) (line-end .ensures) (loop .section) (loop .inv) _ (now (cut .result)) _
+    (cut .ensures) (sort-of .ensures) (c .before .own-by .ensures) (c .if1 .taken)
 
 loop-less : tie.Need-loop-less Inv-loop μ-loop
-loop-less c = omega (arith, end-more (now (c .before .before .before .before .before .before .before .before .before .args .text)) (c .before .before .before .before .before .before .before .loop .p) (c .before .before .before .before .before .line-end .result) (omega arith) (c .before .before .before .before .before .line-end .ensures), end-le (now (c .before .before .before .before .before .before .before .before .before .args .text)) (c .before .before .before .before .before .before .before .loop .p) (c .before .before .before .before .before .line-end .result) (omega arith) (c .before .before .before .before .before .line-end .ensures))
+loop-less c =
+    let args = c .before .before .before .before .before .before .before .before .before .args in
+    let loop = c .before .before .before .before .before .before .before .loop in
+    let line-end = c .before .before .before .before .before .line-end in
+    omega (arith, end-more (now (args .text)) (loop .p) (line-end .result) (omega arith) (line-end .ensures), end-le (now (args .text)) (loop .p) (line-end .result) (omega arith) (line-end .ensures))
 
 loop-again : tie.Need-loop-again Inv-loop μ-loop
-loop-again c = told-other (now (c .before .before .before .before .before .before .before .before .before .args .text)) (c .before .before .before .before .before .before .before .loop .p) (c .before .before .before .before .before .line-end .result) (omega arith) (c .before .before .before .before .before .line-end .ensures) (c .before .before .before .before .before .before .before .loop .section) (c .before .before .before .before .before .before .before .loop .inv) _ (now (c .before .before .before .before .cut .result)) _ (c .before .before .before .before .cut .ensures) (c .before .before .before .sort-of .ensures) (c .before .before .own-by .ensures) _ (c .section-by .ensures) (c .before .if1 .left)
+loop-again c =
+    let c3 = c .before .before .before in
+    let c7 = c3 .before .before .before .before in
+    let args = c7 .before .before .args in
+    let loop = c7 .loop in
+    let line-end = c3 .before .before .line-end in
+    let cut = c3 .before .cut in
+    let sort-of = c3 .sort-of in
+    let own-by = c .before .before .own-by in
+    told-other (now (args .text)) (loop .p) (line-end .result) (omega arith) (line-end .ensures) (loop .section) (loop .inv) _ (now (cut .result)) _
+    (cut .ensures) (sort-of .ensures) (own-by .ensures) _ (c .section-by .ensures) (c .before .if1 .left)
 
 returns-2 : tie.Need-returns-2 Inv-loop μ-loop
 returns-2 c = no-own (sym (c .before .loop .inv .0) ∙ own-end (now (c .before .before .before .args .text)) (c .before .loop .p) (c .before .loop .section) (omega arith))
@@ -58,12 +66,12 @@ own-from-spec =
     Inv-loop
     μ-loop
     loop-holds
-    line-end-requires
-    cut-requires
-    sort-of-requires
-    own-by-requires
+    (λ c κs. search needs)
+    (λ c κs. search needs)
+    (λ c κs. search needs)
+    (λ c κs. search needs)
     returns
-    section-by-requires
+    (λ c κs. search needs)
     loop-less
     loop-again
     returns-2)

@@ -5,12 +5,6 @@ use borrow.Author.Needs.{needs}
 use Rattle.read_headers.proofs.plain_sort.Statement.{statement}
 use Rattle.read_headers.proofs.plain_sort.Tie as tie
 
-slice-aggregate-starts-with : tie.Need-slice-aggregate-starts-with
-slice-aggregate-starts-with c = search needs
-
-starts-with-requires : tie.Need-starts-with-requires
-starts-with-requires c κs = search needs
-
 returns : tie.Need-returns
 unfolding sortBy
 returns c = rw (sym (c .before .starts-with .ensures) ∙ c .if1 .taken)
@@ -21,4 +15,4 @@ returns-2 c = rw (sym (c .before .starts-with .ensures) ∙ c .if1 .left)
 
 pub plain-sort-spec : {M : Type 1} → statement M
 plain-sort-spec =
-    tie.close (tie.spec slice-aggregate-starts-with starts-with-requires returns returns-2)
+    tie.close (tie.spec (λ c. search needs) (λ c κs. search needs) returns returns-2)

@@ -6,14 +6,8 @@ use Rattle.read_loop.proofs.mark_plain.Tie as tie
 mark-lines-requires : tie.Need-mark-lines-requires
 mark-lines-requires c κs = c .before .before .before .pre (c .before .if1 .taken)
 
-same-length : tie.Need-same-length
-same-length c = search needs
-
 returns : tie.Need-returns
 returns c = rw (c .before .before .before .before .if1 .taken) (c .before .before .mark-lines .ensures)
 
-returns-2 : tie.Need-returns-2
-returns-2 c = search needs
-
 pub mark-plain-spec : {M : Type 1} → statement M
-mark-plain-spec = tie.close (tie.spec mark-lines-requires same-length returns returns-2)
+mark-plain-spec = tie.close (tie.spec mark-lines-requires (λ c. search needs) returns (λ c. search needs))

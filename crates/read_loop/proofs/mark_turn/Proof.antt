@@ -9,19 +9,14 @@ mark-class-requires c κs = let p = c .before .before .before .before .pre (c .b
 mark-reason-requires : tie.Need-mark-reason-requires
 mark-reason-requires c κs = c .before .before .before .before .before .before .before .before .pre (c .before .before .before .before .before .if1 .taken) .2
 
-same-length : tie.Need-same-length
-same-length c = search needs
-
-same-length-2 : tie.Need-same-length-2
-same-length-2 c = search needs
-
 returns : tie.Need-returns
-returns c = rw (c .before .before .before .before .before .before .before .before .if1 .taken) (c .before .before .before .before .before .before .mark-class .ensures, c .before .before .mark-reason .ensures)
-
-returns-2 : tie.Need-returns-2
-returns-2 c = search needs
+returns c =
+    let if1 = c .before .before .before .before .before .before .before .before .if1 in
+    let mark-class = c .before .before .before .before .before .before .mark-class in
+    let mark-reason = c .before .before .mark-reason in
+    rw (if1 .taken) (mark-class .ensures, mark-reason .ensures)
 
 pub mark-turn-spec : {M : Type 1} → statement M
 mark-turn-spec =
     tie.close
-    (tie.spec mark-class-requires mark-reason-requires same-length same-length-2 returns returns-2)
+    (tie.spec mark-class-requires mark-reason-requires (λ c. search needs) (λ c. search needs) returns (λ c. search needs))

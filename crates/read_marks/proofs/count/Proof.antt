@@ -1,3 +1,4 @@
+-- `read_marks::count` meets its contract. Assumes nothing.
 use Prim.Native.Nat.{_+_, _-_}
 use native.Mathlib.Omega.{arith}
 use native.Mathlib.Numerals.{add-one}
@@ -21,9 +22,6 @@ loop-holds c = omega arith
 
 shared-slice-read-one : tie.Need-shared-slice-read-one Inv-loop μ-loop
 shared-slice-read-one c = omega arith
-
-one-requires : tie.Need-one-requires Inv-loop μ-loop
-one-requires c κs = search needs
 
 add-n : tie.Need-add-n Inv-loop μ-loop
 add-n c =
@@ -57,7 +55,7 @@ count-spec =
     μ-loop
     loop-holds
     shared-slice-read-one
-    one-requires
+    (λ c κs. search needs)
     add-n
     add-i
     loop-less

@@ -1,36 +1,10 @@
+-- `read_marks::counts_of` meets its contract. Assumes nothing.
 use mathlib.Core.Path.{_∙_, ap}
 use Rattle.read_marks.specs.Counted.{counted}
 use borrow.Author.Needs.{needs}
 use Rattle.read_marks.proofs.counts_of.Statement.{statement}
 use Rattle.read_marks.proofs.counts_of.Tie as tie
 use Rattle.scope_lines.specs.Tables.{countIn}
-
-cut-requires : tie.Need-cut-requires
-cut-requires c κs = search needs
-
-count-requires : tie.Need-count-requires
-count-requires c κs = search needs
-
-count-requires-2 : tie.Need-count-requires-2
-count-requires-2 c κs = search needs
-
-count-requires-3 : tie.Need-count-requires-3
-count-requires-3 c κs = search needs
-
-count-requires-4 : tie.Need-count-requires-4
-count-requires-4 c κs = search needs
-
-count-requires-5 : tie.Need-count-requires-5
-count-requires-5 c κs = search needs
-
-count-requires-6 : tie.Need-count-requires-6
-count-requires-6 c κs = search needs
-
-count-requires-7 : tie.Need-count-requires-7
-count-requires-7 c κs = search needs
-
-count-requires-8 : tie.Need-count-requires-8
-count-requires-8 c κs = search needs
 
 returns : tie.Need-returns
 unfolding counted
@@ -52,13 +26,13 @@ pub counts-of-spec : {M : Type 1} → statement M
 counts-of-spec =
     tie.close
     (tie.spec
-    cut-requires
-    count-requires
-    count-requires-2
-    count-requires-3
-    count-requires-4
-    count-requires-5
-    count-requires-6
-    count-requires-7
-    count-requires-8
+    (λ c κs. search needs)
+    (λ c κs. search needs)
+    (λ c κs. search needs)
+    (λ c κs. search needs)
+    (λ c κs. search needs)
+    (λ c κs. search needs)
+    (λ c κs. search needs)
+    (λ c κs. search needs)
+    (λ c κs. search needs)
     returns)

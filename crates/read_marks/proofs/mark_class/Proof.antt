@@ -1,3 +1,4 @@
+-- `read_marks::mark_class` meets its contract. Assumes nothing.
 use native.Mathlib.Omega.{arith}
 use borrow.Author.Tests.{eq-eqb, ne-eqb}
 use lib.ListN.{set}
@@ -5,12 +6,6 @@ use mathlib.Core.Path.{ap}
 use borrow.Author.Needs.{needs}
 use Rattle.read_marks.proofs.mark_class.Statement.{statement}
 use Rattle.read_marks.proofs.mark_class.Tie as tie
-
-slice-write-classes : tie.Need-slice-write-classes
-slice-write-classes c = search needs
-
-same-length : tie.Need-same-length
-same-length c = search needs
 
 returns : tie.Need-returns
 returns c = rw (eq-eqb (c .before .before .args .closed) 0 (c .if1 .taken))
@@ -24,12 +19,6 @@ refill-requires c κs =
     let z = p .pre .1 (c .before .if1 .left) in
     (omega (arith, z .0, z .1), omega (arith, p .pre .0))
 
-slice-write-classes-2 : tie.Need-slice-write-classes-2
-slice-write-classes-2 c = search needs
-
-same-length-2 : tie.Need-same-length-2
-same-length-2 c = search needs
-
 returns-2 : tie.Need-returns-2
 returns-2 c =
     let u = c .before .before in
@@ -40,11 +29,11 @@ pub mark-class-spec : {M : Type 1} → statement M
 mark-class-spec =
     tie.close
     (tie.spec
-    slice-write-classes
-    same-length
+    (λ c. search needs)
+    (λ c. search needs)
     returns
     sub-refill
     refill-requires
-    slice-write-classes-2
-    same-length-2
+    (λ c. search needs)
+    (λ c. search needs)
     returns-2)

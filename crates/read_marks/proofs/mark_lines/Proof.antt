@@ -28,12 +28,14 @@ loop-less : tie.Need-loop-less Inv-loop μ-loop
 loop-less c = omega arith
 
 loop-again : tie.Need-loop-again Inv-loop μ-loop
-loop-again c = (
-  omega (arith, c .before .loop .inv .0),
-  omega arith,
-  rw length-set (c .before .loop .inv .2),
-  ap (λ x. set x (c .before .loop .i) (c .before .before .args .class)) (c .before .loop .inv .3) ∙ filled-more (now (c .before .before .args .classes)) (c .before .before .args .from) (c .before .loop .i) (c .before .before .args .class) (c .before .loop .inv .0),
-)
+loop-again c =
+    let c2 = c .before .before in (
+      omega (arith, c .before .loop .inv .0),
+      omega arith,
+      rw length-set (c .before .loop .inv .2),
+      ap (λ x. set x (c .before .loop .i) (c2 .args .class)) (c .before .loop .inv .3)
+          ∙ filled-more (now (c2 .args .classes)) (c2 .args .from) (c .before .loop .i) (c2 .args .class) (c .before .loop .inv .0),
+    )
 
 same-length : tie.Need-same-length Inv-loop μ-loop
 same-length c = c .before .loop .inv .2

@@ -1,3 +1,4 @@
+-- `read_marks::mark_reason` meets its contract. Assumes nothing.
 use native.Mathlib.Omega.{arith}
 use borrow.Author.Tests.{eq-eqb, ne-eqb}
 use borrow.Author.Needs.{needs}
@@ -13,12 +14,9 @@ sub-reasons c = c .before .pre (c .if1 .left) .0
 slice-write-reasons : tie.Need-slice-write-reasons
 slice-write-reasons c = let z = c .before .pre (c .if1 .left) in omega (arith, z .0, z .1)
 
-same-length : tie.Need-same-length
-same-length c = search needs
-
 returns-2 : tie.Need-returns-2
 returns-2 c = rw (ne-eqb (c .before .args .reason) 0 (c .if1 .left))
 
 pub mark-reason-spec : {M : Type 1} → statement M
 mark-reason-spec =
-    tie.close (tie.spec returns sub-reasons slice-write-reasons same-length returns-2)
+    tie.close (tie.spec returns sub-reasons slice-write-reasons (λ c. search needs) returns-2)

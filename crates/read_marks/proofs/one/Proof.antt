@@ -1,3 +1,4 @@
+-- `read_marks::one` meets its contract. Assumes nothing.
 use borrow.Author.Tests.{eq-eqb, ne-eqb}
 use Rattle.read_marks.proofs.one.Statement.{statement}
 use Rattle.read_marks.proofs.one.Tie as tie

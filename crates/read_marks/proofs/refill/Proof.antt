@@ -1,3 +1,4 @@
+-- `read_marks::refill` meets its contract. Assumes nothing.
 use Prim.Native.Nat.{_-_, _≤_}
 use native.Mathlib.Omega.{arith}
 use borrow.Author.Needs.{needs}
@@ -20,9 +21,6 @@ loop-holds c = let a = c .before .args in (omega arith, c .before .pre .0, refl,
 
 slice-read-swap : tie.Need-slice-read-swap Inv-loop μ-loop
 slice-read-swap c = omega arith
-
-swap-requires : tie.Need-swap-requires Inv-loop μ-loop
-swap-requires c κs = search needs
 
 slice-write-classes : tie.Need-slice-write-classes Inv-loop μ-loop
 slice-write-classes c = omega arith
@@ -64,7 +62,7 @@ refill-spec =
     μ-loop
     loop-holds
     slice-read-swap
-    swap-requires
+    (λ c κs. search needs)
     slice-write-classes
     add-i
     loop-less

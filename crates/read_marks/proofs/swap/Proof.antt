@@ -1,3 +1,4 @@
+-- `read_marks::swap` meets its contract. Assumes nothing.
 use borrow.Author.Tests.{eq-eqb, ne-eqb}
 use Rattle.read_marks.proofs.swap.Statement.{statement}
 use Rattle.read_marks.proofs.swap.Tie as tie

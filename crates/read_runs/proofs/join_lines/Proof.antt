@@ -7,7 +7,7 @@ use lib.ListN.{length}
 use lib.Seq.{length-take-le}
 use Rattle.leaf_scans.proofs.LineLaws.{end-le, end-more}
 use Rattle.read_steps.specs.declared.State.{State}
-use Rattle.read_runs.proofs.OnwardLaws.{Joined, begin-joined, joined}
+use Rattle.read_runs.proofs.OnwardLaws.{Joined, begin-joined, joined, left-joined}
 use borrow.Author.Needs.{needs}
 use Rattle.read_runs.proofs.join_lines.Statement.{statement}
 use Rattle.read_runs.proofs.join_lines.Tie as tie
@@ -21,29 +21,42 @@ abbrev μ-loop : tie.MeasureT-loop
 loop-holds : tie.Need-loop-holds Inv-loop μ-loop
 loop-holds c = begin-joined (c .before .pre .0)
 
-line-end-requires : tie.Need-line-end-requires Inv-loop μ-loop
-line-end-requires c κs = search needs
-
 slice-aggregate-is-joined : tie.Need-slice-aggregate-is-joined Inv-loop μ-loop
-slice-aggregate-is-joined c = sym (length-take-le (c .before .line-end .result) (now (c .before .before .before .before .before .before .args .text)) (end-le (now (c .before .before .before .before .before .before .args .text)) _ _ (c .before .before .if1 .taken) (c .before .line-end .ensures)))
-
-is-joined-requires : tie.Need-is-joined-requires Inv-loop μ-loop
-is-joined-requires c κs = search needs
+slice-aggregate-is-joined c =
+    let args = c .before .before .before .before .before .before .args in
+    let if1 = c .before .before .if1 in
+    sym (length-take-le (c .before .line-end .result) (now (args .text)) (end-le (now (args .text)) _ _ (if1 .taken) (c .before .line-end .ensures)))
 
 moved-requires : tie.Need-moved-requires Inv-loop μ-loop
-moved-requires c κs = omega (arith, c .before .before .before .before .before .before .before .loop .inv .line, c .before .before .before .before .before .if1 .taken, c .before .before .before .before .before .before .before .before .before .pre .1)
+moved-requires c κs =
+    let loop = c .before .before .before .before .before .before .before .loop in
+    let if1 = c .before .before .before .before .before .if1 in
+    let pre = c .before .before .before .before .before .before .before .before .before .pre in
+    omega (arith, loop .inv .line, if1 .taken, pre .1)
 
 loop-less : tie.Need-loop-less Inv-loop μ-loop
-loop-less c = omega (arith, c .before .before .before .before .before .before .if1 .taken, ap (λ (t : State). t .at) (c .moved .ensures), end-more (now (c .before .before .before .before .before .before .before .before .before .before .args .text)) (c .before .before .before .before .before .before .before .before .loop .t .at) (c .before .before .before .before .before .line-end .result) (c .before .before .before .before .before .before .if1 .taken) (c .before .before .before .before .before .line-end .ensures))
+loop-less c =
+    let if1 = c .before .before .before .before .before .before .if1 in
+    let args = c .before .before .before .before .before .before .before .before .before .before .args in
+    let loop = c .before .before .before .before .before .before .before .before .loop in
+    let line-end = c .before .before .before .before .before .line-end in
+    omega (arith, if1 .taken, ap (λ (t : State). t .at) (c .moved .ensures), end-more (now (args .text)) (loop .t .at) (line-end .result) (if1 .taken) (line-end .ensures))
 
 loop-again : tie.Need-loop-again Inv-loop μ-loop
-loop-again c = joined (c .before .before .before .before .before .before .before .before .loop .inv) (c .before .before .before .before .before .before .if1 .taken) refl (c .before .before .before .before .before .line-end .ensures) (sym (c .before .before .before .is-joined .ensures) ∙ c .before .before .if2 .taken) (c .moved .ensures)
+loop-again c =
+    let loop = c .before .before .before .before .before .before .before .before .loop in
+    let if1 = c .before .before .before .before .before .before .if1 in
+    let line-end = c .before .before .before .before .before .line-end in
+    let is-joined = c .before .before .before .is-joined in
+    let if2 = c .before .before .if2 in
+    let pre = c .before .before .before .before .before .before .before .before .before .before .pre in
+    joined (loop .inv) (if1 .taken) (pre .2) refl (line-end .ensures) (sym (is-joined .ensures) ∙ if2 .taken) (c .moved .ensures)
 
 returns : tie.Need-returns Inv-loop μ-loop
-returns c = λ w f y. c .before .before .before .before .before .before .loop .inv .all w f y .onward
+returns c = left-joined (c .before .before .before .before .before .before .loop .inv) (c .before .before .before .before .before .before .before .before .pre .2)
 
 returns-2 : tie.Need-returns-2 Inv-loop μ-loop
-returns-2 c = λ w f y. c .before .before .loop .inv .all w f y .onward
+returns-2 c = left-joined (c .before .before .loop .inv) (c .before .before .before .before .pre .2)
 
 pub join-lines-spec : {M : Type 1} → statement M
 join-lines-spec =
@@ -52,9 +65,9 @@ join-lines-spec =
     Inv-loop
     μ-loop
     loop-holds
-    line-end-requires
+    (λ c κs. search needs)
     slice-aggregate-is-joined
-    is-joined-requires
+    (λ c κs. search needs)
     moved-requires
     loop-less
     loop-again

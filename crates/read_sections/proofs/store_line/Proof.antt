@@ -1,3 +1,4 @@
+-- `read_sections::store_line` meets its contract. Assumes nothing.
 use Prim.Native.Nat.{ℕ}
 use mathlib.Core.Path.{refl, ap}
 use mathlib.Core.List.{List}
@@ -15,83 +16,41 @@ use Rattle.read_sections.proofs.store_line.Tie as tie
 unchanged : {text w : List ℕ} {f : List Float} {m : Network} {s : Counts} → Holds text m s w f → After text (good m) (Stored s) w f w f
 unchanged h = (ap Stored (h .counts), record { counts = refl; words = h .words; numbers = h .numbers })
 
-enum-told : tie.Need-enum-told
-enum-told c = search needs
-
 junction-line-requires : tie.Need-junction-line-requires
 junction-line-requires c κs = c .before .before .before .before .before .before .before .pre
-
-enum-told-2 : tie.Need-enum-told-2
-enum-told-2 c = search needs
 
 reservoir-line-requires : tie.Need-reservoir-line-requires
 reservoir-line-requires c κs = c .before .before .before .before .before .before .before .pre
 
-enum-told-3 : tie.Need-enum-told-3
-enum-told-3 c = search needs
-
 tank-line-requires : tie.Need-tank-line-requires
 tank-line-requires c κs = c .before .before .before .before .before .before .before .pre
-
-enum-told-4 : tie.Need-enum-told-4
-enum-told-4 c = search needs
 
 pipe-line-requires : tie.Need-pipe-line-requires
 pipe-line-requires c κs = c .before .before .before .before .before .before .before .pre
 
-enum-told-5 : tie.Need-enum-told-5
-enum-told-5 c = search needs
-
 pump-line-requires : tie.Need-pump-line-requires
 pump-line-requires c κs = c .before .before .before .before .before .before .before .pre
-
-enum-told-6 : tie.Need-enum-told-6
-enum-told-6 c = search needs
 
 valve-line-requires : tie.Need-valve-line-requires
 valve-line-requires c κs = c .before .before .before .before .before .before .before .pre
 
-enum-told-7 : tie.Need-enum-told-7
-enum-told-7 c = search needs
-
 curve-line-requires : tie.Need-curve-line-requires
 curve-line-requires c κs = c .before .before .before .before .before .before .before .pre
-
-enum-told-8 : tie.Need-enum-told-8
-enum-told-8 c = search needs
 
 pattern-line-requires : tie.Need-pattern-line-requires
 pattern-line-requires c κs = c .before .before .before .before .before .before .before .pre
 
-enum-told-9 : tie.Need-enum-told-9
-enum-told-9 c = search needs
-
 demand-line-requires : tie.Need-demand-line-requires
 demand-line-requires c κs = c .before .before .before .before .before .before .before .pre
-
-enum-told-10 : tie.Need-enum-told-10
-enum-told-10 c = search needs
 
 emitter-line-requires : tie.Need-emitter-line-requires
 emitter-line-requires c κs = c .before .before .before .before .before .before .before .pre
 
-enum-told-11 : tie.Need-enum-told-11
-enum-told-11 c = search needs
-
 coordinates-line-requires : tie.Need-coordinates-line-requires
 coordinates-line-requires c κs = c .before .before .before .before .before .before .before .pre
 
-enum-told-12 : tie.Need-enum-told-12
-enum-told-12 c = search needs
-
 times-line-requires : tie.Need-times-line-requires
 times-line-requires c κs = c .before .before .before .before .before .before .before .pre
-
-enum-told-13 : tie.Need-enum-told-13
-enum-told-13 c = search needs
-
-enum-told-14 : tie.Need-enum-told-14
-enum-told-14 c = search needs
 
 same-length : tie.Need-same-length
 same-length c = c .before .before .before .before .junction-line .kept .1 .1 .1 .1 .0
@@ -211,32 +170,32 @@ pub store-line-spec : {M : Type 1} → statement M
 store-line-spec =
     tie.close
     (tie.spec
-    enum-told
+    (λ c. search needs)
     junction-line-requires
-    enum-told-2
+    (λ c. search needs)
     reservoir-line-requires
-    enum-told-3
+    (λ c. search needs)
     tank-line-requires
-    enum-told-4
+    (λ c. search needs)
     pipe-line-requires
-    enum-told-5
+    (λ c. search needs)
     pump-line-requires
-    enum-told-6
+    (λ c. search needs)
     valve-line-requires
-    enum-told-7
+    (λ c. search needs)
     curve-line-requires
-    enum-told-8
+    (λ c. search needs)
     pattern-line-requires
-    enum-told-9
+    (λ c. search needs)
     demand-line-requires
-    enum-told-10
+    (λ c. search needs)
     emitter-line-requires
-    enum-told-11
+    (λ c. search needs)
     coordinates-line-requires
-    enum-told-12
+    (λ c. search needs)
     times-line-requires
-    enum-told-13
-    enum-told-14
+    (λ c. search needs)
+    (λ c. search needs)
     same-length
     same-length-2
     returns

@@ -1,9 +1,7 @@
+-- `read_steps::still` meets its contract. Assumes nothing.
 use borrow.Author.Needs.{needs}
 use Rattle.read_steps.proofs.still.Statement.{statement}
 use Rattle.read_steps.proofs.still.Tie as tie
-
-moved-requires : tie.Need-moved-requires
-moved-requires c κs = search needs
 
 returns : tie.Need-returns
 returns c = rw (c .moved .ensures)
@@ -12,5 +10,5 @@ pub still-spec : {M : Type 1} → statement M
 still-spec =
     tie.close
     (tie.spec
-    moved-requires
+    (λ c κs. search needs)
     returns)

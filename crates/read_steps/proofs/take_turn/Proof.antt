@@ -1,82 +1,80 @@
 -- `read_steps::take_turn` meets its contract. Assumes nothing.
-use Rattle.read_steps.proofs.WayLaws.{sort-is, plain-start, plain-other, way-any, way-header}
+use mathlib.Core.Path.{sym, ap, _∙_}
+use Rattle.read_headers.specs.declared.Sort.{Sort}
+use Rattle.read_headers.specs.Own.{sortIn, isData}
+use Rattle.read_steps.proofs.WayLaws.{closes-open, way-closes, way-blank, way-header, way-plain}
 use borrow.Author.Needs.{needs}
 use Rattle.read_steps.proofs.take_turn.Statement.{statement}
 use Rattle.read_steps.proofs.take_turn.Tie as tie
 
-enum-told : tie.Need-enum-told
-enum-told c = search needs
-
-blank-requires : tie.Need-blank-requires
-blank-requires c κs = let q = c .before .before .before .before .before .before .before .pre in (q .0, q .1, sort-is (q .0) (q .1) (q .3) (c .before .before .enum-told .given .1))
-
-enum-known-k : tie.Need-enum-known-k
-enum-known-k c = search needs
-
-still-requires : tie.Need-still-requires
-still-requires c κs = search needs
-
-enum-told-2 : tie.Need-enum-told-2
-enum-told-2 c = search needs
-
-starting-requires : tie.Need-starting-requires
-starting-requires c κs = let q = c .before .before .before .before .before .before .before .pre in (q .0, q .1, q .2, plain-start (q .0) (q .1) (q .3) (c .before .before .enum-told2 .given .1))
-
-enum-told-3 : tie.Need-enum-told-3
-enum-told-3 c = search needs
-
-plain-requires : tie.Need-plain-requires
-plain-requires c κs = let q = c .before .before .before .before .before .before .before .pre in (q .0, q .1, q .2, plain-other (q .0) (q .1) (q .3) (c .before .before .enum-told3 .given .1))
-
-same-length : tie.Need-same-length
-same-length c = search needs
-
-same-length-2 : tie.Need-same-length-2
-same-length-2 c = search needs
+close-requires : tie.Need-close-requires
+close-requires c κs =
+    let a = c .before .before .before .before .before .before .before .before .args in
+    let q = c .before .before .before .before .before .before .before .before .pre in
+    (q .0, q .1, closes-open (sortIn (a .k)) (a .s .section) (a .s .grouped) (sym (c .before .before .before .before .closes .ensures) ∙ c .before .before .before .if1 .taken))
 
 returns : tie.Need-returns
-returns c = let q = c .before .before .before .before .before .before .before .before .before .before .before .before .pre in way-any (q .0) (q .1) (q .3) (c .before .before .before .before .before .before .before .enum-told .given .1) (c .before .before .before .before .blank .ensures)
+returns c =
+    let pre = c .before .before .before .before .before .before .before .before .before .before .before .before .before .pre in
+    let args = c .before .before .before .before .before .before .before .before .before .before .before .before .before .args in
+    let closes = c .before .before .before .before .before .before .before .before .before .closes in
+    let if1 = c .before .before .before .before .before .before .before .before .if1 in
+    let own-by = c .before .before .before .before .before .before .before .own-by in
+    let close = c .before .before .before .before .close in
+    let q = pre in
+    way-closes (q .0) (q .1) (args .k) (q .2) (sym (closes .ensures) ∙ if1 .taken) (own-by .ensures) (close .ensures)
 
 returns-2 : tie.Need-returns-2
-returns-2 c = let q = c .before .before .before .before .before .before .before .pre in way-header (q .0) (q .1) (q .3) (c .before .before .k .given .1) (c .still .ensures)
-
-same-length-3 : tie.Need-same-length-3
-same-length-3 c = search needs
-
-same-length-4 : tie.Need-same-length-4
-same-length-4 c = search needs
+returns-2 c =
+    let pre = c .before .before .before .before .before .before .before .before .pre in
+    let args = c .before .before .before .before .before .before .before .before .args in
+    let closes = c .before .before .before .before .closes in
+    let if1 = c .before .before .before .if1 in
+    let q = pre in
+    way-blank (q .0) (q .1) (args .k) (q .2) (sym (closes .ensures) ∙ if1 .left) (c .before .enum-told .given .1) (c .still .ensures)
 
 returns-3 : tie.Need-returns-3
-returns-3 c = let q = c .before .before .before .before .before .before .before .before .before .before .before .before .pre in way-any (q .0) (q .1) (q .3) (c .before .before .before .before .before .before .before .enum-told2 .given .1) (c .before .before .before .before .starting .ensures)
-
-same-length-5 : tie.Need-same-length-5
-same-length-5 c = search needs
-
-same-length-6 : tie.Need-same-length-6
-same-length-6 c = search needs
+returns-3 c =
+    let q = c .before .before .before .before .before .before .before .before .before .pre in
+    way-header (q .0) (q .1) (c .before .before .before .before .before .before .before .before .before .args .k) (q .2) (c .before .before .k .given .1) (c .still2 .ensures)
 
 returns-4 : tie.Need-returns-4
-returns-4 c = let q = c .before .before .before .before .before .before .before .before .before .before .before .before .pre in way-any (q .0) (q .1) (q .3) (c .before .before .before .before .before .before .before .enum-told3 .given .1) (c .before .before .before .before .plain .ensures)
+returns-4 c =
+    let pre = c .before .before .before .before .before .before .before .before .pre in
+    let args = c .before .before .before .before .before .before .before .before .args in
+    let closes = c .before .before .before .before .closes in
+    let if1 = c .before .before .before .if1 in
+    let q = pre in
+    way-plain (q .0) (q .1) (args .k) (q .2) (sym (closes .ensures) ∙ if1 .left) (ap (λ (k : Sort). isData (sortIn k)) (c .before .enum-told2 .given .1)) (q .3) (c .plain .ensures)
+
+returns-5 : tie.Need-returns-5
+returns-5 c =
+    let pre = c .before .before .before .before .before .before .before .before .pre in
+    let args = c .before .before .before .before .before .before .before .before .args in
+    let closes = c .before .before .before .before .closes in
+    let if1 = c .before .before .before .if1 in
+    let q = pre in
+    way-plain (q .0) (q .1) (args .k) (q .2) (sym (closes .ensures) ∙ if1 .left) (ap (λ (k : Sort). isData (sortIn k)) (c .before .enum-told3 .given .1)) (q .3) (c .plain2 .ensures)
 
 pub take-turn-spec : {M : Type 1} → statement M
 take-turn-spec =
     tie.close
     (tie.spec
-    enum-told
-    blank-requires
-    enum-known-k
-    still-requires
-    enum-told-2
-    starting-requires
-    enum-told-3
-    plain-requires
-    same-length
-    same-length-2
+    (λ c κs. search needs)
+    (λ c κs. search needs)
+    close-requires
+    (λ c. search needs)
+    (λ c. search needs)
     returns
+    (λ c. search needs)
+    (λ c κs. search needs)
+    (λ c. search needs)
+    (λ c κs. search needs)
+    (λ c. search needs)
+    (λ c κs. search needs)
+    (λ c. search needs)
+    (λ c κs. search needs)
     returns-2
-    same-length-3
-    same-length-4
     returns-3
-    same-length-5
-    same-length-6
-    returns-4)
+    returns-4
+    returns-5)

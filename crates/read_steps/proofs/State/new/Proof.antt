@@ -1,9 +1,7 @@
+-- `read_steps::State` meets its contract. Assumes nothing.
 use borrow.Author.Needs.{needs}
 use Rattle.read_steps.proofs.State.new.Statement.{statement}
 use Rattle.read_steps.proofs.State.new.Tie as tie
-
-no-counts-requires : tie.Need-no-counts-requires
-no-counts-requires c κs = search needs
 
 returns : tie.Need-returns
 returns c = rw (c .no-counts .ensures)
@@ -12,5 +10,5 @@ pub new-spec : {M : Type 1} → statement M
 new-spec =
     tie.close
     (tie.spec
-    no-counts-requires
+    (λ c κs. search needs)
     returns)
