@@ -16,7 +16,7 @@ fn refused(reasons: &[u8; table_rows::LINES_ROOM]) -> usize
     ensures { λ r. ⌜ r ≤ roomLines ⌝ }
 {
     let mut n = 0;
-    for i in 0..tables::LINES_ROOM {
+    for i in 0..table_rows::LINES_ROOM {
         n += one_if(reasons[i] != 0);
     }
     n

@@ -21,7 +21,8 @@ module _ (text w : List ℕ) (f : List Float) (c r k : List ℕ) where
 
   abbrev Called : ℕ → List ℕ → List Float → List ℕ → List ℕ → List ℕ → Type 0
   Called n w′ f′ c′ r′ k′ =
-      (n ≡ numberOf text w f c r k) × (w′ ≡ wordsAfter text w f c r k) × (f′ ≡ numbersAfter text w f c r k) × (c′ ≡ classesAfter text w f c r k) × (r′ ≡ reasonsAfter text w f c r k) × (k′ ≡ countsAfter text w f c r k)
+      (n ≡ numberOf text w f c r k) × (w′ ≡ wordsAfter text w f c r k) × (f′ ≡ numbersAfter text w f c r k) × (c′ ≡ classesAfter text w f c r k)
+      × (r′ ≡ reasonsAfter text w f c r k) × (k′ ≡ countsAfter text w f c r k)
 
   pub few : length k < 9 → Called 28 w f c r k
   unfolding numberOf wordsAfter numbersAfter classesAfter reasonsAfter countsAfter

@@ -23,7 +23,8 @@ use Rattle.scope.specs.declared.TimeOption.the-variants.{Duration, HydraulicTim
 use Rattle.scope.specs.Spelling.{wordIs, wordRule, wordIf, wordAnd, wordOr, wordThen, wordElse, wordPriority}
 use Rattle.scope.specs.Sections.{roomText, roomNodes, roomDemands, roomLinks, roomCurves, roomPoints, roomPatterns, roomRules, roomClauses}
 use Rattle.scope.specs.Records as R
-use Rattle.scope.specs.Records.{Network, noNetwork, Node, NodeKind, junction, reservoir, tank, LinkKind, pump, Rule, Clause, condition, action, Action, noNode, nodeIds, linkIds, ruleIds, lookup, noLink}
+use Rattle.scope.specs.Records.{Network, noNetwork, Node, NodeKind, junction, reservoir, tank, LinkKind, pump, Rule, Clause, condition, action, Action, noNode}
+use Rattle.scope.specs.Records.{nodeIds, linkIds, ruleIds, lookup, noLink}
 use Rattle.scope.specs.Values.{Read, good, bad, onRead, Took, took, refused, onTook, onFound, nameFrom, countFrom, pairOf}
 use Rattle.scope.specs.Nodes.{junctionOf, addJunction, junctionStep, addNode, reservoirOf, reservoirStep, tankOf, tankStep, onJunction, emitterOf, setEmitter, emitterStep, setPlace, coordinatesStep}
 use Rattle.scope.specs.Links.{newLink, Ends, endsOf, addLink, LinkFields, storeLink, pipeOf, pipeStep, noPump, pumpFrom, pumpStep, valveOf, valveStep}
@@ -35,7 +36,7 @@ use Rattle.scope.specs.Lines.{sectionFields, ruleFields, verdict, stepOf, inp}
 use Rattle.scope.specs.Reading.{atStart, strictOf, surveyed, networkIn, allLow, strictNetwork, surveyNetwork}
 use Rattle.scope.proofs.WrittenLaws.{Fine, goodly, badly}
 use Rattle.scope.proofs.Kept.{VerdictKeeps, keeps, refuses, StoredKeeps, passes, judges, Keeps, recsIn, survey-keeps, strict-keeps}
-use Rattle.table_rows.proofs.LookLaws.{found-below}
+use Rattle.table_find.proofs.LookLaws.{found-below}
 
 -- the rules' clauses are those from the place k up to the place n, one rule's after another's
 pub data EndToEnd : ℕ → List Rule → ℕ → Type 0 where

@@ -47,14 +47,16 @@ one-action : (asked : Action → Bool) (xs : List Clause) (a : Action) → howMa
 unfolding howMany
 one-action asked xs a = omega (arith, how-many-append asked xs (action a ∷ []))
 
-with-it : (t : Bool) (v : Value) (n : Moves) → moves (n .closes + oneIf (t && closes v)) (n .opens + oneIf (t && opens v)) (n .activates + oneIf (t && activates v)) (n .sets + oneIf (t && sets v)) ≡ cond t (withMove n v) n
+with-it : (t : Bool) (v : Value) (n : Moves)
+    → moves (n .closes + oneIf (t && closes v)) (n .opens + oneIf (t && opens v)) (n .activates + oneIf (t && activates v)) (n .sets + oneIf (t && sets v)) ≡ cond t (withMove n v) n
 with-it false v n = moves-eq (omega arith) (omega arith) (omega arith) (omega arith)
 with-it true (Status Closed) n = moves-eq refl (omega arith) (omega arith) (omega arith)
 with-it true (Status Open) n = moves-eq (omega arith) refl (omega arith) (omega arith)
 with-it true (Status Active) n = moves-eq (omega arith) (omega arith) refl (omega arith)
 with-it true (Number x) n = moves-eq (omega arith) (omega arith) (omega arith) refl
 
-one-more : (which : Which) (otherwise : Bool) (xs : List Clause) (x : Clause) → movesOf (chosen which otherwise) (xs ++ (x ∷ [])) ≡ withClause which otherwise (movesOf (chosen which otherwise) xs) (clauseBack x)
+one-more : (which : Which) (otherwise : Bool) (xs : List Clause) (x : Clause)
+    → movesOf (chosen which otherwise) (xs ++ (x ∷ [])) ≡ withClause which otherwise (movesOf (chosen which otherwise) xs) (clauseBack x)
 one-more which otherwise xs (condition c) = moves-eq (one-condition _ xs c) (one-condition _ xs c) (one-condition _ xs c) (one-condition _ xs c)
 one-more which otherwise xs (action a) =
     moves-eq (one-action _ xs a) (one-action _ xs a) (one-action _ xs a) (one-action _ xs a) ∙ with-it (chosen which otherwise a) (a .value) (movesOf (chosen which otherwise) xs)
@@ -100,14 +102,16 @@ few-more which otherwise (clauseIs.Action a) h = few-with (isBranch otherwise (a
 pub whole : (which : Which) (otherwise : Bool) (cs : List Clause) {n : ℕ} → n ≡ length cs → sofar which otherwise cs 0 n ≡ movesOf (chosen which otherwise) cs
 whole which otherwise cs {n} e = rw (take-all (n - 0) cs (omega arith))
 
-rule-part : (cs : List Clause) (first count end : ℕ) → (length cs - first ≤ count → end ≡ length cs) → (count ≤ length cs - first → end - first ≡ count) → take (end - first) (drop first cs) ≡ take count (drop first cs)
+rule-part : (cs : List Clause) (first count end : ℕ) → (length cs - first ≤ count → end ≡ length cs) → (count ≤ length cs - first → end - first ≡ count)
+    → take (end - first) (drop first cs) ≡ take count (drop first cs)
 rule-part cs first count end all some =
     elim (le-or-lt (length cs - first) count) [
       | inl h ↦ take-all (end - first) (drop first cs) (omega (arith, all h, length-drop first cs)) ∙ sym (take-all count (drop first cs) (omega (arith, length-drop first cs)))
       | inr h ↦ ap (λ (n : ℕ). take n (drop first cs)) (some (omega arith))
     ]
 
-pub rule-is : (m : Network) (i : ℕ) (otherwise : Bool) {r : ruleOut.Rule} {all end : ℕ} → r ≡ ruleBack (getD (m .rules) i noRule) → all ≡ length (m .clauses) → (all - r .first ≤ r .count → end ≡ all) → (r .count ≤ all - r .first → end - r .first ≡ r .count) → sofar Any otherwise (m .clauses) (r .first) end ≡ ruleMoves m i otherwise
+pub rule-is : (m : Network) (i : ℕ) (otherwise : Bool) {r : ruleOut.Rule} {all end : ℕ} → r ≡ ruleBack (getD (m .rules) i noRule) → all ≡ length (m .clauses)
+    → (all - r .first ≤ r .count → end ≡ all) → (r .count ≤ all - r .first → end - r .first ≡ r .count) → sofar Any otherwise (m .clauses) (r .first) end ≡ ruleMoves m i otherwise
 rule-is m i otherwise {r} {all} {end} e long full short =
     rw (rule-part (m .clauses) (r .first) (r .count) end (rw long at full) (rw long at short)) (rw e)
 
@@ -125,7 +129,8 @@ larger-below a b n p q = either (ltb a b)
 pub made-few : (then otherwise : Moves) → Few roomClauses then → Few roomClauses otherwise → two then otherwise ≤ 2 * roomClauses
 made-few then otherwise p q = larger-below (then .closes + otherwise .closes) (then .opens + otherwise .opens) (2 * roomClauses) (omega arith) (omega arith)
 
-pub made-is : (then otherwise : Moves) → Few roomClauses then → Few roomClauses otherwise → {r : ℕ} → r ≡ two then otherwise → ((then .closes + otherwise .closes) + r ≤ 4 * roomClauses) × ((then .closes + otherwise .closes) + r ≡ made then otherwise)
+pub made-is : (then otherwise : Moves) → Few roomClauses then → Few roomClauses otherwise → {r : ℕ} → r ≡ two then otherwise
+    → ((then .closes + otherwise .closes) + r ≤ 4 * roomClauses) × ((then .closes + otherwise .closes) + r ≡ made then otherwise)
 made-is then otherwise p q e = (omega (arith, made-few then otherwise p q, e), ap (λ (x : ℕ). (then .closes + otherwise .closes) + x) e)
 
 pub made-none : (m : Network) → 0 ≡ madeBelow m 0

@@ -62,7 +62,8 @@ module _ (asked : Action → Bool) (cs : List Clause) where
 
 pub rules-sum : (m : Network) (otherwise : Bool) → Laid m → overRules m otherwise ≡ allMoves m otherwise
 rules-sum m otherwise w =
-    let over : (asked : Action → Bool) → below (λ i. inRule asked (m .clauses) (getD (m .rules) i noRule)) (length (m .rules)) ≡ howMany asked (m .clauses) = λ asked. all-rules asked (m .clauses) (m .rules) (w .rules) in
+    let over : (asked : Action → Bool) → below (λ i. inRule asked (m .clauses) (getD (m .rules) i noRule)) (length (m .rules)) ≡ howMany asked (m .clauses) =
+    λ asked. all-rules asked (m .clauses) (m .rules) (w .rules) in
     moves-eq (over _) (over _) (over _) (over _)
 
 -- ---- over the links: each action is of one of them

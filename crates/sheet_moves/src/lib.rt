@@ -25,7 +25,8 @@ fn moves_between(
 ) -> Moves
     requires { ⌜ end ≤ roomClauses ⌝ }
     ensures { λ r. ⌜ Few roomClauses r ⌝ }
-    ensures { λ r. ⌜ ((m : Network) → Stands m (now (words .entry)) (now (numbers .entry)) → end ≤ length (m .clauses) → r ≡ movesOf (chosen which otherwise) (take (end - first) (drop first (m .clauses)))) ⌝ }
+    ensures { λ r. ⌜ ((m : Network) → Stands m (now (words .entry)) (now (numbers .entry)) → end ≤ length (m .clauses)
+        → r ≡ movesOf (chosen which otherwise) (take (end - first) (drop first (m .clauses)))) ⌝ }
 {
     let mut n = Moves {
         closes: 0,

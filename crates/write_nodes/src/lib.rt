@@ -1,5 +1,6 @@
 // The nodes of a network and a junction's demands, as the dump writes them: docs/DUMP.md has the form.
 use scope::Tank;
+use stored_parts::Part;
 use stored_records::Junction;
 use stored_records::Node;
 use stored_records::NodeKind;
@@ -92,7 +93,12 @@ fn show_node(text: &[u8], words: &[u64], numbers: &[f64], i: usize) {
     let kind = n.kind;
     match kind {
         NodeKind::Junction(j) => {
-            show_junction(text, n, j, stored_parts::demands_of(words, numbers, i));
+            show_junction(
+                text,
+                n,
+                j,
+                stored_parts::parts_of(words, numbers, Part::Demand, i),
+            );
             show_demands(text, words, numbers, i);
         }
         NodeKind::Reservoir(r) => {

@@ -123,7 +123,7 @@ fn show_lines(
 ) {
     let mut is_open = false;
     let mut at = 0;
-    for i in 0..tables::LINES_ROOM {
+    for i in 0..table_rows::LINES_ROOM {
         let end = leaf_scans::line_end(text, at);
         let line = leaf_fields::letters_of(text, Span { at, end });
         is_open = show_line(i + 1, classes[i], reasons[i], is_open, line);

@@ -11,7 +11,7 @@ use scope::Target;
 use scope::Value;
 use stored_records::Clause;
 use stored_records::Rule;
-use table_codes::Amount;
+use stored_words::Amount;
 use write_text::count;
 use write_text::newline;
 use write_text::number;

@@ -1,6 +1,7 @@
 // The curves, patterns and times of a network, as the dump writes them: docs/DUMP.md has the form.
 use leaf_fields::Span;
-use table_codes::Amount;
+use stored_parts::Part;
+use stored_words::Amount;
 use write_text::count;
 use write_text::flag;
 use write_text::newline;
@@ -36,7 +37,7 @@ fn show_curve(text: &[u8], words: &[u64], numbers: &[f64], i: usize) {
         b"curve",
         text,
         id,
-        stored_parts::points_of(words, numbers, i),
+        stored_parts::parts_of(words, numbers, Part::Point, i),
     );
     show_points(words, numbers, i);
     newline();
@@ -75,7 +76,7 @@ fn show_pattern(text: &[u8], words: &[u64], numbers: &[f64], i: usize) {
         b"pattern",
         text,
         id,
-        stored_parts::multipliers_of(words, numbers, i),
+        stored_parts::parts_of(words, numbers, Part::Multiplier, i),
     );
     show_multipliers(words, numbers, i);
     newline();

@@ -1,3 +1,4 @@
+-- `cases::replay` is safe and ends. Assumes nothing.
 use Prim.Native.Nat.{_-_, _≤_}
 use native.Mathlib.Omega.{arith}
 use borrow.Author.Needs.{needs}
@@ -15,41 +16,30 @@ abbrev μ-loop : tie.MeasureT-loop
 μ-loop all from₀ at₀ from at =
     length all - at
 
-loop-holds : tie.Need-loop-holds Inv-loop μ-loop
-loop-holds c = search needs
-
-line-end-requires : tie.Need-line-end-requires Inv-loop μ-loop
-line-end-requires c κs = search needs
-
-shared-slice-read-if1 : tie.Need-shared-slice-read-if1 Inv-loop μ-loop
-shared-slice-read-if1 c = search needs
-
-show-part-requires : tie.Need-show-part-requires Inv-loop μ-loop
-show-part-requires c κs = search needs
-
-letters-of-requires : tie.Need-letters-of-requires Inv-loop μ-loop
-letters-of-requires c κs = search needs
-
-write-requires : tie.Need-write-requires Inv-loop μ-loop
-write-requires c κs = search needs
-
 loop-less : tie.Need-loop-less Inv-loop μ-loop
-loop-less c = omega (arith, c .before .before .before .before .before .before .loop-test .taken, end-more (now (c .before .before .before .before .before .before .before .before .before .args .all)) (c .before .before .before .before .before .before .before .loop .at) _ (c .before .before .before .before .before .before .loop-test .taken) (c .before .before .before .before .before .line-end .ensures))
+loop-less c =
+    let c5 = c .before .before .before .before .before in
+    let c6 = c5 .before in
+    let c9 = c6 .before .before .before in
+    omega (arith, c6 .loop-test .taken, end-more (now (c9 .args .all)) (c6 .before .loop .at) _ (c6 .loop-test .taken) (c5 .line-end .ensures))
 
 loop-again : tie.Need-loop-again Inv-loop μ-loop
-loop-again c = end-le (now (c .before .before .before .before .before .before .before .before .before .args .all)) (c .before .before .before .before .before .before .before .loop .at) _ (c .before .before .before .before .before .before .loop-test .taken) (c .before .before .before .before .before .line-end .ensures)
+loop-again c =
+    let c5 = c .before .before .before .before .before in
+    let c9 = c5 .before .before .before .before in
+    end-le (now (c9 .args .all)) (c5 .before .before .loop .at) _ (c5 .before .loop-test .taken) (c5 .line-end .ensures)
 
 loop-less-2 : tie.Need-loop-less-2 Inv-loop μ-loop
-loop-less-2 c = omega (arith, c .before .before .before .loop-test .taken, end-more (now (c .before .before .before .before .before .before .args .all)) (c .before .before .before .before .loop .at) _ (c .before .before .before .loop-test .taken) (c .before .before .line-end .ensures))
+loop-less-2 c =
+    let c3 = c .before .before .before in
+    let c6 = c3 .before .before .before in
+    omega (arith, c3 .loop-test .taken, end-more (now (c6 .args .all)) (c3 .before .loop .at) _ (c3 .loop-test .taken) (c .before .before .line-end .ensures))
 
 loop-again-2 : tie.Need-loop-again-2 Inv-loop μ-loop
-loop-again-2 c = end-le (now (c .before .before .before .before .before .before .args .all)) (c .before .before .before .before .loop .at) _ (c .before .before .before .loop-test .taken) (c .before .before .line-end .ensures)
-
-show-part-requires-2 : tie.Need-show-part-requires-2 Inv-loop μ-loop
-show-part-requires-2 c κs = search needs
-
-returns : tie.Need-returns Inv-loop μ-loop
-returns c = search needs
+loop-again-2 c =
+    let c3 = c .before .before .before in
+    let c6 = c3 .before .before .before in
+    end-le (now (c6 .args .all)) (c3 .before .loop .at) _ (c3 .loop-test .taken) (c .before .before .line-end .ensures)
 
 pub replay-spec : {M : Type 1} → statement M
 replay-spec =
@@ -57,15 +47,15 @@ replay-spec =
     (tie.spec
     Inv-loop
     μ-loop
-    loop-holds
-    line-end-requires
-    shared-slice-read-if1
-    show-part-requires
-    letters-of-requires
-    write-requires
+    (λ c. search needs)
+    (λ c κs. search needs)
+    (λ c. search needs)
+    (λ c κs. search needs)
+    (λ c κs. search needs)
+    (λ c κs. search needs)
     loop-less
     loop-again
     loop-less-2
     loop-again-2
-    show-part-requires-2
-    returns)
+    (λ c κs. search needs)
+    (λ c. search needs))

@@ -5,18 +5,6 @@ use borrow.Author.Needs.{needs}
 use Rattle.inp.proofs.inp_read_strict.Statement.{statement}
 use Rattle.inp.proofs.inp_read_strict.Tie as tie
 
-read-strict-requires : tie.Need-read-strict-requires
-read-strict-requires c κs = search needs
-
-cast-result : tie.Need-cast-result
-cast-result c = search needs
-
-same-length : tie.Need-same-length
-same-length c = search needs
-
-same-length-2 : tie.Need-same-length-2
-same-length-2 c = search needs
-
 returns : tie.Need-returns
 returns c =
     let e = c .before .before .before .before .before .read-strict .ensures in
@@ -24,4 +12,4 @@ returns c =
 
 pub inp-read-strict-spec : {M : Type 1} → statement M
 inp-read-strict-spec =
-    tie.close (tie.spec read-strict-requires cast-result same-length same-length-2 returns)
+    tie.close (tie.spec (λ c κs. search needs) (λ c. search needs) (λ c. search needs) (λ c. search needs) returns)

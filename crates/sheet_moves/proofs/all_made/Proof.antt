@@ -1,3 +1,4 @@
+-- `sheet_moves::all_made` meets its contract. Assumes nothing.
 use Prim.Native.Nat.{_-_, _*_, _≤_}
 use native.Mathlib.Omega.{arith}
 use mathlib.Core.Path.{_≡_, _∙_}
@@ -18,26 +19,16 @@ abbrev μ-loop : tie.MeasureT-loop
 μ-loop words numbers all n₀ i₀ n i =
     all - i
 
-link-count-requires : tie.Need-link-count-requires Inv-loop μ-loop
-link-count-requires c κs = search needs
-
 loop-holds : tie.Need-loop-holds Inv-loop μ-loop
 loop-holds c = (omega arith, omega arith, λ m t. made-none m)
-
-link-made-requires : tie.Need-link-made-requires Inv-loop μ-loop
-link-made-requires c κs = search needs
 
 add-n : tie.Need-add-n Inv-loop μ-loop
 add-n c = omega (arith, c .link-made .ensures .0, c .before .before .loop .inv .1, c .before .before .before .link-count .ensures .0)
 
-add-i : tie.Need-add-i Inv-loop μ-loop
-add-i c = search needs
-
-loop-less : tie.Need-loop-less Inv-loop μ-loop
-loop-less c = search needs
-
 loop-again : tie.Need-loop-again Inv-loop μ-loop
-loop-again c = (omega arith, omega (arith, c .link-made .ensures .0, c .before .before .loop .inv .1), λ m t. made-next m (c .before .before .loop .i) (c .before .before .loop .inv .2 m t) (c .link-made .ensures .1 m t))
+loop-again c =
+    let c2 = c .before .before in
+    (omega arith, omega (arith, c .link-made .ensures .0, c2 .loop .inv .1), λ m t. made-next m (c2 .loop .i) (c2 .loop .inv .2 m t) (c .link-made .ensures .1 m t))
 
 returns : tie.Need-returns Inv-loop μ-loop
 returns c = λ m t. c .before .loop .inv .2 m t ∙ made-all m (omega (arith, c .before .before .link-count .ensures .1 m (now (c .before .before .before .before .before .args .numbers)) t))
@@ -48,11 +39,11 @@ all-made-spec =
     (tie.spec
     Inv-loop
     μ-loop
-    link-count-requires
+    (λ c κs. search needs)
     loop-holds
-    link-made-requires
+    (λ c κs. search needs)
     add-n
-    add-i
-    loop-less
+    (λ c. search needs)
+    (λ c. search needs)
     loop-again
     returns)

@@ -1,3 +1,4 @@
+-- `sheet_moves::clause_count` meets its contract. Assumes nothing.
 use native.Mathlib.Omega.{arith}
 use mathlib.Core.Path.{_≡_, ap, _∙_}
 use lib.ListN.{length}
@@ -5,12 +6,6 @@ use Rattle.scope.specs.declared.Counts.{Counts}
 use borrow.Author.Needs.{needs}
 use Rattle.sheet_moves.proofs.clause_count.Statement.{statement}
 use Rattle.sheet_moves.proofs.clause_count.Tie as tie
-
-counts-at-requires : tie.Need-counts-at-requires
-counts-at-requires c κs = search needs
-
-least-requires : tie.Need-least-requires
-least-requires c κs = search needs
 
 returns : tie.Need-returns
 returns c = (
@@ -21,4 +16,4 @@ returns c = (
 )
 
 pub clause-count-spec : {M : Type 1} → statement M
-clause-count-spec = tie.close (tie.spec counts-at-requires least-requires returns)
+clause-count-spec = tie.close (tie.spec (λ c κs. search needs) (λ c κs. search needs) returns)

@@ -1,3 +1,4 @@
+-- `sheet_moves::larger_of` meets its contract. Assumes nothing.
 use borrow.Author.Tests.{lt-ltb, le-ltb}
 use Rattle.sheet_moves.proofs.larger_of.Statement.{statement}
 use Rattle.sheet_moves.proofs.larger_of.Tie as tie

@@ -1,13 +1,8 @@
+-- `sheet_moves::link_made` meets its contract. Assumes nothing.
 use mathlib.Core.Path.{_∙_}
 use borrow.Author.Needs.{needs}
 use Rattle.sheet_moves.proofs.link_made.Statement.{statement}
 use Rattle.sheet_moves.proofs.link_made.Tie as tie
-
-link-moves-requires : tie.Need-link-moves-requires
-link-moves-requires c κs = search needs
-
-link-moves-requires-2 : tie.Need-link-moves-requires-2
-link-moves-requires-2 c κs = search needs
 
 made-by-requires : tie.Need-made-by-requires
 made-by-requires c κs = (c .before .link-moves .ensures .0, c .link-moves2 .ensures .0)
@@ -17,4 +12,4 @@ returns c = (c .made-by .ensures .0, λ m t. c .made-by .ensures .1 ∙ rw (c .b
 
 pub link-made-spec : {M : Type 1} → statement M
 link-made-spec =
-    tie.close (tie.spec link-moves-requires link-moves-requires-2 made-by-requires returns)
+    tie.close (tie.spec (λ c κs. search needs) (λ c κs. search needs) made-by-requires returns)

@@ -1,23 +1,19 @@
+-- `sheet_moves::made_by` meets its contract. Assumes nothing.
 use native.Mathlib.Omega.{arith}
 use Rattle.sheet_moves.proofs.MovesLaws.{made-few, made-is}
 use borrow.Author.Needs.{needs}
 use Rattle.sheet_moves.proofs.made_by.Statement.{statement}
 use Rattle.sheet_moves.proofs.made_by.Tie as tie
 
-add-closings : tie.Need-add-closings
-add-closings c = search needs
-
-add-openings : tie.Need-add-openings
-add-openings c = search needs
-
-larger-of-requires : tie.Need-larger-of-requires
-larger-of-requires c κs = search needs
-
 add-result : tie.Need-add-result
-add-result c = omega (arith, made-few (c .before .before .before .before .before .args .then) (c .before .before .before .before .before .args .otherwise) (c .before .before .before .before .before .pre .0) (c .before .before .before .before .before .pre .1), c .larger-of .ensures)
+add-result c =
+    let c5 = c .before .before .before .before .before in
+    omega (arith, made-few (c5 .args .then) (c5 .args .otherwise) (c5 .pre .0) (c5 .pre .1), c .larger-of .ensures)
 
 returns : tie.Need-returns
-returns c = made-is (c .before .before .before .before .before .args .then) (c .before .before .before .before .before .args .otherwise) (c .before .before .before .before .before .pre .0) (c .before .before .before .before .before .pre .1) (c .larger-of .ensures)
+returns c =
+    let c5 = c .before .before .before .before .before in
+    made-is (c5 .args .then) (c5 .args .otherwise) (c5 .pre .0) (c5 .pre .1) (c .larger-of .ensures)
 
 pub made-by-spec : {M : Type 1} → statement M
-made-by-spec = tie.close (tie.spec add-closings add-openings larger-of-requires add-result returns)
+made-by-spec = tie.close (tie.spec (λ c. search needs) (λ c. search needs) (λ c κs. search needs) add-result returns)

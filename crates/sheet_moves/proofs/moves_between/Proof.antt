@@ -1,3 +1,4 @@
+-- `sheet_moves::moves_between` meets its contract. Assumes nothing.
 use Prim.Native.Nat.{_-_, _+_, _≤_}
 use native.Mathlib.Omega.{arith}
 use mathlib.Core.Path.{_≡_}
@@ -21,35 +22,31 @@ abbrev μ-loop : tie.MeasureT-loop
 loop-holds : tie.Need-loop-holds Inv-loop μ-loop
 loop-holds c = (omega arith, omega arith, few-none _, λ m g le. none-yet (c .before .before .args .which) (c .before .before .args .otherwise) (m .clauses) (c .before .before .args .first))
 
-clause-at-requires : tie.Need-clause-at-requires Inv-loop μ-loop
-clause-at-requires c κs = search needs
-
 with-clause-requires : tie.Need-with-clause-requires Inv-loop μ-loop
 with-clause-requires c κs = few-within (omega arith) (c .before .before .loop .inv .2)
 
-add-k : tie.Need-add-k Inv-loop μ-loop
-add-k c = search needs
-
-loop-less : tie.Need-loop-less Inv-loop μ-loop
-loop-less c = search needs
-
 loop-again : tie.Need-loop-again Inv-loop μ-loop
 loop-again c =
-    let more : Few (c .before .before .before .loop .k - c .before .before .before .before .before .before .args .first + 1) (c .with-clause .result) = rw (c .with-clause .ensures) (few-more (c .before .before .before .before .before .before .args .which) (c .before .before .before .before .before .before .args .otherwise) (c .before .clause-at .result) (c .before .before .before .loop .inv .2)) in (
+    let c3 = c .before .before .before in
+    let c6 = c3 .before .before .before in
+    let more : Few (c3 .loop .k - c6 .args .first + 1) (c .with-clause .result) =
+    rw (c .with-clause .ensures) (few-more (c6 .args .which) (c6 .args .otherwise) (c .before .clause-at .result) (c3 .loop .inv .2)) in (
       omega arith,
       omega arith,
       few-within (omega arith) more,
       λ m g le.
           rw (c .with-clause .ensures, c .before .clause-at .ensures m g)
-          (then-one-more (c .before .before .before .before .before .before .args .which) (c .before .before .before .before .before .before .args .otherwise) (m .clauses) (c .before .before .before .before .before .before .args .first) (c .before .before .before .loop .k) (c .before .before .before .loop .n) (c .before .before .before .loop .inv .0) (omega arith) (c .before .before .before .loop .inv .3 m g le)),
+          (then-one-more (c6 .args .which) (c6 .args .otherwise) (m .clauses) (c6 .args .first) (c3 .loop .k) (c3 .loop .n) (c3 .loop .inv .0) (omega arith) (c3 .loop .inv .3 m g le)),
     )
 
 returns : tie.Need-returns Inv-loop μ-loop
-returns c = (
-  few-within (omega arith) (c .before .loop .inv .2),
-  λ m g le.
-      all-of-them (c .before .before .before .before .args .which) (c .before .before .before .before .args .otherwise) (m .clauses) (c .before .before .before .before .args .first) (c .before .loop .k) (c .before .before .before .before .args .end) (c .before .loop .n) (c .before .loop .inv .0) (omega arith) (c .before .loop .inv .1) (c .before .loop .inv .3 m g le),
-)
+returns c =
+    let c4 = c .before .before .before .before in (
+      few-within (omega arith) (c .before .loop .inv .2),
+      λ m g le.
+          all-of-them (c4 .args .which) (c4 .args .otherwise) (m .clauses) (c4 .args .first) (c .before .loop .k) (c4 .args .end) (c .before .loop .n)
+          (c .before .loop .inv .0) (omega arith) (c .before .loop .inv .1) (c .before .loop .inv .3 m g le),
+    )
 
 pub moves-between-spec : {M : Type 1} → statement M
 moves-between-spec =
@@ -58,9 +55,9 @@ moves-between-spec =
     Inv-loop
     μ-loop
     loop-holds
-    clause-at-requires
+    (λ c κs. search needs)
     with-clause-requires
-    add-k
-    loop-less
+    (λ c. search needs)
+    (λ c. search needs)
     loop-again
     returns)

@@ -1,3 +1,4 @@
+-- `write_text::bits` is safe and ends. Assumes nothing.
 use mathlib.Core.Path.{_≡_}
 use mathlib.Core.Bool.{false, not, true≢false}
 use lib.Dec.{T}
@@ -13,31 +14,16 @@ equals-itself nan h = absurd (true≢false h)
 equals-itself (inf s) h = tt
 equals-itself (fin s m e) h = tt
 
-slice-aggregate-write : tie.Need-slice-aggregate-write
-slice-aggregate-write c = search needs
-
-write-requires : tie.Need-write-requires
-write-requires c κs = search needs
-
-returns : tie.Need-returns
-returns c = search needs
-
 float-to-bits-print-hex : tie.Need-float-to-bits-print-hex
 float-to-bits-print-hex c = equals-itself _ (c .if1 .left)
-
-print-hex-requires : tie.Need-print-hex-requires
-print-hex-requires c κs = search needs
-
-returns-2 : tie.Need-returns-2
-returns-2 c = search needs
 
 pub bits-spec : {M : Type 1} → statement M
 bits-spec =
     tie.close
     (tie.spec
-    slice-aggregate-write
-    write-requires
-    returns
+    (λ c. search needs)
+    (λ c κs. search needs)
+    (λ c. search needs)
     float-to-bits-print-hex
-    print-hex-requires
-    returns-2)
+    (λ c κs. search needs)
+    (λ c. search needs))
