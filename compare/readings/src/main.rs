@@ -51,7 +51,7 @@ fn compare(count: u64, mut check: impl FnMut(&[u8]) -> Result<Vec<Refusal>, Stri
             println!("{at} texts, {differences} differences, {:.0} s", start.elapsed().as_secs_f64());
         }
     }
-    report(&answers, differences, start);
+    report(&answers, count, differences, start);
     differences
 }
 
@@ -63,14 +63,26 @@ fn texts(count: u64) -> impl Iterator<Item = Vec<u8>> {
     rooms.chain(edges::odd()).chain((0..count).map(generate::text))
 }
 
-fn report(answers: &Answers, differences: u64, start: Instant) {
+/// The last line is the sentence of docs/DIFFERENCES.md: which crates were compared (as bindings/sources names them), and how much.
+fn report(answers: &Answers, count: u64, differences: u64, start: Instant) {
     println!("answer texts readings");
     answers.iter().for_each(|(answer, [texts, readings])| println!("{answer:6} {texts} {readings}"));
     let total = |column: usize| answers.values().map(|counts| counts[column]).sum::<u64>();
     let speed = total(0) as f64 / start.elapsed().as_secs_f64();
+    println!("{speed:.0} texts a second");
+    let crates = std::env::var("CRATES").unwrap_or("as they are".into());
     println!(
-        "readings: {} texts, {} readings; differences {differences}; {speed:.0} texts a second",
-        total(0),
-        total(1)
+        "Crates {crates}: {} texts (seeds 0 to {}, and {} at the edges), {} readings, {} differences.",
+        grouped(total(0)),
+        grouped(count.saturating_sub(1)),
+        grouped(total(0) + differences - count),
+        grouped(total(1)),
+        grouped(differences)
     );
+}
+
+fn grouped(n: u64) -> String {
+    let digits = n.to_string();
+    let parts: Vec<&str> = digits.as_bytes().rchunks(3).rev().map(|part| std::str::from_utf8(part).unwrap()).collect();
+    parts.join(",")
 }
