@@ -1,6 +1,7 @@
 // Reads a list of texts from standard input, each after a line that begins with #, and prints for each what strict reading answers and what the tables then hold:
 // how many nodes, links, curves, patterns, rules, conditions and actions there are; and of each action whether it is an else action, the place of its link, and
 // its status (1 OPEN, 2 CLOSED, 0 where it is a setting).
+#![tactic(auto)]
 use leaf_fields::Span;
 use scope::Action;
 use stored_records::Clause;

@@ -1,5 +1,6 @@
 // Prints every number of the layout by its name, one a line, as table_layout answers it. bindings/layout holds what is printed against include/inp.h, bindings/rust, compare/model and
 // docs/LAYOUT.md.
+#![tactic(auto)]
 use table_layout::{
     ClauseWord, Count, Inner, LinkNumber, LinkWord, NodeNumber, NodeWord, Numbers, Region, Room,
     RuleWord, Series, Slots,

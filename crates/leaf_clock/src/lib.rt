@@ -1,4 +1,5 @@
 // Times: hours and minutes with a colon, or a number with a unit. See specs/Times.antt for the rules.
+#![tactic(auto)]
 ghost use Rattle.std.specs.Prelude.{◌≡◌};
 ghost use Rattle.leaf_clock.specs.Cut.{cut};
 ghost use Rattle.leaf_clock.specs.Times.{colon_at, before_colon, morning, afternoon, hour_of, colon_form, without_s, unit_words, named, unit_of, in_unit, time_of};
@@ -7,7 +8,7 @@ ghost use Rattle.leaf_clock.specs.Products.{ByNearest};
 use leaf_counts::Count;
 use leaf_decimals::Number;
 
-#[derive(Drop)]
+#[derive(Clone, Copy)]
 pub enum Time {
     Seconds(u64),
     Malformed,
@@ -15,7 +16,7 @@ pub enum Time {
     UnknownUnit,
 }
 
-#[derive(Drop)]
+#[derive(Clone, Copy)]
 pub enum Unit {
     Hour,
     Minute,

@@ -1,10 +1,11 @@
 // Counts: a whole number below 2^64, with or without a plus. specs/Counts.antt says what is a count.
+#![tactic(auto)]
 ghost use Rattle.std.specs.Prelude.{◌≡◌};
 ghost use Rattle.leaf_counts.specs.Counts.{whole, count_of};
 
 use leaf_digits::Class;
 
-#[derive(Drop)]
+#[derive(Clone, Copy)]
 pub enum Count {
     Whole(u64),
     Uncounted,

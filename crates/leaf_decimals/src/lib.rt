@@ -1,4 +1,5 @@
 // Decimal numbers. specs/Numbers.antt says what is a number, and specs/Nearest.antt which double it gives.
+#![tactic(auto)]
 ghost use Rattle.std.specs.Prelude.{◌≡◌, ◌^◌, ◌<◌, ◌≤◌, min};
 ghost use Rattle.leaf_digits.specs.Cap.{cap};
 ghost use Rattle.leaf_decimals.specs.Nearest.{gap};
@@ -8,7 +9,7 @@ ghost use Rattle.leaf_decimals.specs.Begun.{Begins};
 
 use leaf_digits::Class;
 
-#[derive(Drop)]
+#[derive(Clone, Copy)]
 pub enum Number {
     Value(f64),
     Malformed,
@@ -234,7 +235,7 @@ pub fn read_number(s: &[u8]) -> Number
 // ---- a plain number, as most are written: digits, or digits, a point and digits, and then whitespace or the text's end
 
 // The number and how long it is, or the text begins otherwise.
-#[derive(Drop)]
+#[derive(Clone, Copy)]
 pub enum Plain {
     Is(Number, usize),
     Other,

@@ -1,5 +1,6 @@
 // Bytes and runs of digits, for the readers of fields, counts and numbers. specs/Bytes.antt says of what class a byte is, and
 // specs/Digits.antt which digits a text begins with.
+#![tactic(auto)]
 ghost use Rattle.std.specs.Prelude.{◌≡◌, ◌+◌, ◌-◌, ◌*◌, ◌≤◌, min, length, drop};
 ghost use Rattle.leaf_digits.specs.Bytes.{class_of, is, lower};
 ghost use Rattle.leaf_digits.specs.Digits.{digits, value};
@@ -9,7 +10,7 @@ ghost use Rattle.leaf_digits.specs.Runs.{Room, Scanned};
 
 // ---- a byte
 
-#[derive(Drop)]
+#[derive(Clone, Copy)]
 pub enum Class {
     Space,
     Digit,
@@ -101,7 +102,7 @@ fn extended(v: u64, b: u8) -> u64
 
 // The digits that a text begins with: how many they are, and the number that they are, with the
 // digits of `start` before them.
-#[derive(Drop)]
+#[derive(Clone, Copy)]
 pub struct Run {
     pub len: usize,
     pub value: u64,
@@ -126,7 +127,7 @@ pub fn leading(s: &[u8], start: u64) -> Run
 }
 
 // Where digits end, and the number that they are, with the digits of `start` before them.
-#[derive(Drop)]
+#[derive(Clone, Copy)]
 pub struct Few {
     pub end: usize,
     pub value: u64,

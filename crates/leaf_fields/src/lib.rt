@@ -1,17 +1,18 @@
 // Fields, as parts of the text. A line is the caller's text up to the line's end, with the place where it starts: so every place is a place of the text.
+#![tactic(auto)]
 ghost use Rattle.std.specs.Prelude.{◌≡◌, List, ℕ};
 ghost use Rattle.leaf_fields.specs.Fields.{part, start_at, fields_at, letters_or, Next, Past};
 
 use leaf_scans::Kind;
 
 // The bytes from `at` up to `end`.
-#[derive(Drop)]
+#[derive(Clone, Copy)]
 pub struct Span {
     pub at: usize,
     pub end: usize,
 }
 
-#[derive(Drop)]
+#[derive(Clone, Copy)]
 pub enum Field {
     Taken(Span),
     Nothing,

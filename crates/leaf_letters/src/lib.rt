@@ -1,4 +1,5 @@
 // Bytes compared: parts of a text, and fixed words.
+#![tactic(auto)]
 ghost use Rattle.std.specs.Prelude.{◌≡◌, take, drop};
 ghost use Rattle.leaf_letters.specs.Words.{same, raised, spelled, begins};
 

@@ -1,5 +1,6 @@
 // White bytes and lines, found by scans: where a line ends, where it is cut, what is left of it when it is trimmed. `leaf_fields` scans
 // for its fields the same way. A line is the caller's text up to the line's end, with the place where it starts: so every place is a place of the text.
+#![tactic(auto)]
 ghost use Rattle.std.specs.Prelude.{◌≡◌, ℕ, ◌+◌, length, take, drop};
 ghost use Rattle.leaf_scans.specs.Lines.{is_space, line_len, end_trimmed, trimmed, cut_of};
 ghost use Rattle.leaf_scans.specs.Scan.{is_kind, span_len};
@@ -21,7 +22,7 @@ pub fn is_space(b: u8) -> bool
 }
 
 // What the scan below passes over: whitespace; a field.
-#[derive(Drop)]
+#[derive(Clone, Copy)]
 pub enum Kind {
     Space,
     Word,
@@ -72,7 +73,7 @@ fn line_stop(text: &[u8], at: usize) -> usize
     leaf_words::find_either(text, at, b';', b'\n')
 }
 
-#[derive(Drop)]
+#[derive(Clone, Copy)]
 pub struct Ends {
     pub cut: usize,
     pub end: usize,

@@ -1,5 +1,6 @@
 // Takes the next field of a line as a number or a flag. A line is the caller's text up to the line's end, with the place where its next field
 // is looked for: so every place is a place of the text. Names are taken by leaf_fields::next_field.
+#![tactic(auto)]
 ghost use Rattle.std.specs.Prelude.{◌≡◌};
 ghost use Rattle.leaf_decimals.specs.Numbers.{number_of};
 ghost use Rattle.leaf_fields.specs.Fields.{fields_at};
@@ -11,13 +12,13 @@ use leaf_fields::Field;
 use scope::Reason;
 
 // A number and a place from which on the other fields stand, or why there is none.
-#[derive(Drop)]
+#[derive(Clone, Copy)]
 pub enum TookNumber {
     Number(f64, usize),
     NoNumber(Reason),
 }
 
-#[derive(Drop)]
+#[derive(Clone, Copy)]
 pub enum TookFlag {
     Flag(bool, usize),
     NoFlag(Reason),
@@ -34,7 +35,7 @@ pub fn as_number(n: Number, next: usize) -> TookNumber
 }
 
 // What number the next field is, and a place from which on the others stand.
-#[derive(Drop)]
+#[derive(Clone, Copy)]
 pub enum NextNumber {
     Is(Number, usize),
     Missing,

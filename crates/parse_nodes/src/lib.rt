@@ -1,4 +1,5 @@
 // Reads a line of JUNCTIONS or RESERVOIRS: the fields in order, and what they say. Nothing is looked up or stored here. What a line of TANKS says, which parse_tanks reads, is a NodeRead too.
+#![tactic(auto)]
 ghost use Rattle.leaf_fields.specs.Fields.{fields_at};
 ghost use Rattle.scope.specs.Nodes.{junction_of, reservoir_of};
 ghost use Rattle.parse_nodes.specs.Lines.{JunctionAs, NodeAs};
@@ -9,7 +10,7 @@ use scope::{Reason, Tank};
 
 // ---- what the lines say
 
-#[derive(Drop)]
+#[derive(Clone, Copy)]
 pub struct JunctionLine {
     pub id: Span,
     pub elevation: f64,
@@ -18,27 +19,27 @@ pub struct JunctionLine {
     pub disabled: bool,
 }
 
-#[derive(Drop)]
+#[derive(Clone, Copy)]
 pub enum JunctionRead {
     Junction(JunctionLine),
     NoJunction(Reason),
 }
 
-#[derive(Drop)]
+#[derive(Clone, Copy)]
 pub struct ReservoirLine {
     pub id: Span,
     pub elevation: f64,
     pub pattern: Field,
 }
 
-#[derive(Drop)]
+#[derive(Clone, Copy)]
 pub struct TankLine {
     pub id: Span,
     pub tank: Tank,
 }
 
 // What a line of RESERVOIRS or TANKS says.
-#[derive(Drop)]
+#[derive(Clone, Copy)]
 pub enum NodeRead {
     Reservoir(ReservoirLine),
     Basin(TankLine),

@@ -1,4 +1,5 @@
 // Reads a line of EMITTERS, an id and a number, or of COORDINATES or CURVES, an id and two: the fields in order, and what they say. Nothing is looked up or stored here.
+#![tactic(auto)]
 ghost use Rattle.leaf_fields.specs.Fields.{fields_at};
 ghost use Rattle.scope.specs.Nodes.{emitter_of};
 ghost use Rattle.scope.specs.Values.{pair_of};
@@ -8,27 +9,27 @@ use leaf_fields::{Field, Span};
 use parse_fields::TookNumber;
 use scope::Reason;
 
-#[derive(Drop)]
+#[derive(Clone, Copy)]
 pub struct EmitterLine {
     pub id: Span,
     pub coefficient: f64,
 }
 
-#[derive(Drop)]
+#[derive(Clone, Copy)]
 pub enum EmitterRead {
     Emitter(EmitterLine),
     NoEmitter(Reason),
 }
 
 // An id and two numbers: what a line of CURVES or of COORDINATES says.
-#[derive(Drop)]
+#[derive(Clone, Copy)]
 pub struct PairLine {
     pub id: Span,
     pub x: f64,
     pub y: f64,
 }
 
-#[derive(Drop)]
+#[derive(Clone, Copy)]
 pub enum PairRead {
     Pair(PairLine),
     NoPair(Reason),

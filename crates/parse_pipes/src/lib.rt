@@ -1,5 +1,6 @@
 // What a line of PIPES, PUMPS or VALVES says, the names with which each starts, and a line of PIPES read whole (parse_pumps and parse_valves
 // read the other two). Nothing is looked up or stored here.
+#![tactic(auto)]
 ghost use Rattle.std.specs.Prelude.{◌≡◌};
 ghost use Rattle.leaf_fields.specs.Fields.{fields_at};
 ghost use Rattle.scope.specs.Links.{status_in, pipe_of};
@@ -12,27 +13,27 @@ use scope::{LinkKind, Pipe, PipeStatus, Reason};
 // ---- what the lines say
 
 // The id and the two nodes, with which every link's line starts.
-#[derive(Drop)]
+#[derive(Clone, Copy)]
 pub struct LinkNames {
     pub id: Span,
     pub start: Span,
     pub end: Span,
 }
 
-#[derive(Drop)]
+#[derive(Clone, Copy)]
 pub enum NamesRead {
     Names(LinkNames),
     NoNames,
 }
 
-#[derive(Drop)]
+#[derive(Clone, Copy)]
 pub struct LinkLine {
     pub names: LinkNames,
     pub kind: LinkKind,
 }
 
 // What a line of PIPES or VALVES says.
-#[derive(Drop)]
+#[derive(Clone, Copy)]
 pub enum LinkRead {
     Line(LinkLine),
     NoLine(Reason),

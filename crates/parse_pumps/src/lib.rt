@@ -1,4 +1,5 @@
 // Reads the pairs of a line of PUMPS, each a word and its value, after the names with which it starts. Nothing is looked up or stored here.
+#![tactic(auto)]
 ghost use Rattle.leaf_fields.specs.Fields.{fields_at, name_in, Fits};
 ghost use Rattle.scope.specs.Links.{no_pump, with_pair, pump_from};
 ghost use Rattle.parse_fields.specs.Taking.{MayFit};
@@ -9,7 +10,7 @@ use leaf_decimals::Number;
 use leaf_fields::{Field, Span};
 use scope::{Pump, Reason};
 
-#[derive(Drop)]
+#[derive(Clone, Copy)]
 pub enum PumpRead {
     Pairs(Pump),
     NoPump(Reason),

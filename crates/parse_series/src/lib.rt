@@ -1,4 +1,5 @@
 // Parses a line of PATTERNS or DEMANDS. A line of CURVES is an id and two numbers: parse_pairs::read_pair.
+#![tactic(auto)]
 ghost use Rattle.leaf_fields.specs.Fields.{fields_at};
 ghost use Rattle.scope.specs.Series.{multipliers_of, pattern_of, demand_of};
 ghost use Rattle.parse_series.specs.Lines.{CountedAs, PatternAs, DemandAs};
@@ -8,33 +9,33 @@ use parse_fields::{NextNumber, TookNumber};
 use scope::Reason;
 
 // A pattern's id, how many multipliers there are, and where those start that do not stand in the caller's slice.
-#[derive(Drop)]
+#[derive(Clone, Copy)]
 pub struct PatternLine {
     pub id: Span,
     pub count: usize,
     pub rest: usize,
 }
 
-#[derive(Drop)]
+#[derive(Clone, Copy)]
 pub enum PatternRead {
     Pattern(PatternLine),
     NoPattern(Reason),
 }
 
-#[derive(Drop)]
+#[derive(Clone, Copy)]
 pub enum Counted {
     Count(usize, usize),
     NoCount(Reason),
 }
 
-#[derive(Drop)]
+#[derive(Clone, Copy)]
 pub struct DemandLine {
     pub id: Span,
     pub base: f64,
     pub pattern: Field,
 }
 
-#[derive(Drop)]
+#[derive(Clone, Copy)]
 pub enum DemandRead {
     Demand(DemandLine),
     NoDemand(Reason),

@@ -1,4 +1,5 @@
 // Reads a line of VALVES: the fields in order, and what they say. Nothing is looked up or stored here.
+#![tactic(auto)]
 ghost use Rattle.std.specs.Prelude.{◌≡◌};
 ghost use Rattle.leaf_fields.specs.Fields.{fields_at, name_in};
 ghost use Rattle.scope.specs.Links.{type_of, setting_from, valve_of};
@@ -10,14 +11,14 @@ use parse_fields::TookNumber;
 use parse_pipes::{LinkLine, LinkNames, LinkRead, NamesRead};
 use scope::{LinkKind, Reason, Valve, ValveType};
 
-#[derive(Drop)]
+#[derive(Clone, Copy)]
 pub enum TypeRead {
     Type(ValveType),
     NoType,
 }
 
 // A setting, the curve that stands in its place, and where its field ends.
-#[derive(Drop)]
+#[derive(Clone, Copy)]
 pub enum TookSetting {
     Setting(f64, Field, usize),
     NoSetting(Reason),

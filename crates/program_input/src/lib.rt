@@ -1,11 +1,12 @@
 // The text that a program reads: a file named on the command line, or standard input.
+#![tactic(auto)]
 use libc::{STDERR_FILENO, STDIN_FILENO};
 
 // A program's room for a text: one byte more than a reading takes, so that a longer text is seen to be longer.
 pub const TEXT_ROOM: usize = table_rows::TEXT_ROOM + 1;
 
 // How many bytes were read, or that they could not be.
-#[derive(Drop)]
+#[derive(Clone, Copy)]
 pub enum Input {
     Read(usize),
     Failed,

@@ -1,4 +1,5 @@
 // The section that a header opens, what a line is, and the lines of a group.
+#![tactic(auto)]
 ghost use Rattle.std.specs.Prelude.{◌≡◌, false, cond, take, drop};
 ghost use Rattle.leaf_scans.specs.Lines as kind;
 ghost use Rattle.leaf_scans.specs.Lines.{start_trimmed};
@@ -78,7 +79,7 @@ pub fn section_of(w: &[u8]) -> Section
 
 // ---- what a line is
 
-#[derive(Drop)]
+#[derive(Clone, Copy)]
 pub enum Sort {
     Empty,
     Heading(Section),
@@ -191,7 +192,7 @@ pub fn own_by(k: Sort, s: Section) -> bool
 
 // ---- the lines of a group
 
-#[derive(Drop)]
+#[derive(Clone, Copy)]
 pub enum OwnLine {
     Line(Span),
     Nothing,

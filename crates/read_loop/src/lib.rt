@@ -1,4 +1,5 @@
 // Goes over the lines of a text: both readings are this one loop. Strict reading stops at the first piece that is refused; a survey goes on past it, and marks what each line is.
+#![tactic(auto)]
 ghost use Rattle.std.specs.Prelude.{◌≡◌, true, false, cond, ◌-◌, ◌≤◌, ◌<◌, length, set, eqb};
 ghost use Rattle.scope_lines.specs.Tables.{refilled};
 ghost use Rattle.scope.specs.Records.{no_network, counts_of};
@@ -11,7 +12,7 @@ use read_steps::State;
 use scope::Counts;
 
 // How many records the tables hold, how many lines were read, and the number and the line of a refusal that ended the reading, or 0 and 0.
-#[derive(Drop)]
+#[derive(Clone, Copy)]
 pub struct Over {
     pub counts: Counts,
     pub lines: usize,

@@ -1,4 +1,5 @@
 // Lines one after another that are stored at once, or join their group, as most lines do. What a reading carries stays where it is meanwhile: each section has a loop of its own.
+#![tactic(auto)]
 ghost use Rattle.std.specs.Prelude.{◌≡◌, true, false, List, ℕ, ◌≤◌, length, Float};
 ghost use Rattle.scope_lines.specs.Reader.{step};
 ghost use Rattle.scope.specs.Sections.{is_rules, room_text};
@@ -12,7 +13,7 @@ use scope::Section;
 use table_rows::Kept;
 
 // Where the lines end that were read, and the class that each of them has. Where the next line is refused: the refusal's number, and the line's end; else 0 and 0.
-#[derive(Drop)]
+#[derive(Clone, Copy)]
 pub struct PlainRun {
     pub state: State,
     pub class: u8,

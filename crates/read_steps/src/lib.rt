@@ -1,4 +1,5 @@
 // One line of a text: what it does to a reading, and to the tables that the caller lends.
+#![tactic(auto)]
 ghost use Rattle.std.specs.Prelude.{◌≡◌, true, false, cond, ◌+◌, ◌<◌, drop};
 ghost use Rattle.leaf_scans.specs.Lines.{line_len};
 ghost use Rattle.scope_lines.specs.Reader.{step, closes, shut};
@@ -14,7 +15,7 @@ use scope::{Counts, Section};
 use table_rows::Kept;
 
 // The reading: the section, the open group by its first line's place and number, the counts, and the next line.
-#[derive(Drop)]
+#[derive(Clone, Copy)]
 pub struct State {
     pub section: Section,
     pub grouped: bool,
@@ -26,7 +27,7 @@ pub struct State {
 }
 
 // What a line did: its class, the class of the group that it closed or 0, the number of a refusal or 0, and the piece's line.
-#[derive(Drop)]
+#[derive(Clone, Copy)]
 pub struct Turn {
     pub state: State,
     pub class: u8,

@@ -1,4 +1,5 @@
 // Reads a text line by line into the tables that the caller lends, strictly: up to the first piece that is refused.
+#![tactic(auto)]
 ghost use Rattle.std.specs.Prelude.{◌≡◌, false, ◌≤◌, ◌<◌, length};
 ghost use Rattle.scope.specs.Answers.{reason_no};
 ghost use Rattle.scope.specs.Sections.{room_text};
@@ -11,7 +12,7 @@ ghost use Rattle.stored_records.specs.Back.{Stands};
 use scope::{Answer, Counts, Reason};
 
 // What a reading gives beside the tables: the answer, and how many records they hold.
-#[derive(Drop)]
+#[derive(Clone, Copy)]
 pub struct Strict {
     pub answer: Answer,
     pub counts: Counts,

@@ -1,4 +1,5 @@
 // Surveys a text into the tables that the caller lends: every line is read, whatever is refused, and each has its class and its reason.
+#![tactic(auto)]
 ghost use Rattle.std.specs.Prelude.{◌≡◌, ◌≤◌, length, replicate, false};
 ghost use Rattle.scope_lines.specs.Tables.{code_of, reason_in, marks_in};
 ghost use Rattle.scope.specs.Sections.{room_lines, room_text};
@@ -12,7 +13,7 @@ ghost use Rattle.stored_records.specs.Back.{Stands};
 use scope::{Counts, Reason, Survey};
 
 // What a survey gives beside the tables: the answer, and how many records they hold.
-#[derive(Drop)]
+#[derive(Clone, Copy)]
 struct Surveyed {
     pub survey: Survey,
     pub counts: Counts,

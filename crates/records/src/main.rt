@@ -1,4 +1,5 @@
 // Reads a text strictly or as a survey, and prints every record that is stored: docs/DUMP.md has the form.
+#![tactic(auto)]
 use program_input::Input;
 use write_text::{count, newline, write};
 

@@ -1,5 +1,6 @@
 // Reads the conditions and the actions of a rule. A line is the caller's text up to the line's end, with the place where its next field is looked for: so every place
 // is a place of the text.
+#![tactic(auto)]
 ghost use Rattle.std.specs.Prelude.{◌≡◌};
 ghost use Rattle.leaf_fields.specs.Fields.{fields_at};
 ghost use Rattle.scope.specs.Records.{LinkKind};
@@ -18,7 +19,7 @@ use scope::{
 // ---- the target of a condition
 
 // The target that an attribute's word makes.
-#[derive(Drop)]
+#[derive(Clone, Copy)]
 pub enum AttributeRead {
     Known(Target),
     Unknown,
@@ -85,7 +86,7 @@ fn link_target(w: &[u8]) -> AttributeRead
 }
 
 // The kinds of target that have an id.
-#[derive(Drop)]
+#[derive(Clone, Copy)]
 enum Named {
     Node,
     Tank,
@@ -103,14 +104,14 @@ fn attribute(kind: Named, w: &[u8]) -> AttributeRead
 }
 
 // A target with its id, the system having none, and where the next field is looked for.
-#[derive(Drop)]
+#[derive(Clone, Copy)]
 pub struct Aim {
     pub target: Target,
     pub name: Field,
     pub next: usize,
 }
 
-#[derive(Drop)]
+#[derive(Clone, Copy)]
 pub enum TargetRead {
     Read(Aim),
     Refused(Reason),
@@ -242,7 +243,7 @@ pub fn read_value(target: Target, l: &[u8], at: usize) -> ValueRead
 
 // ---- a condition
 
-#[derive(Drop)]
+#[derive(Clone, Copy)]
 pub enum ConditionRead {
     Read(Condition),
     Refused(Reason),
@@ -290,13 +291,13 @@ pub fn read_rule_condition(l: &[u8], at: usize, operator: Operator) -> Condition
 
 // ---- an action: what stands before the link is looked up, the kind of the link, and what stands after
 
-#[derive(Drop)]
+#[derive(Clone, Copy)]
 pub struct ActionHead {
     pub kind: Span,
     pub id: Span,
 }
 
-#[derive(Drop)]
+#[derive(Clone, Copy)]
 pub enum HeadRead {
     Read(ActionHead),
     Refused(Reason),
@@ -318,7 +319,7 @@ pub fn read_action_head(l: &[u8], at: usize) -> HeadRead
     HeadRead::Read(ActionHead { kind, id })
 }
 
-#[derive(Drop)]
+#[derive(Clone, Copy)]
 pub enum KindRead {
     Fits,
     Refused(Reason),
@@ -380,7 +381,7 @@ pub fn read_deed(l: &[u8], at: usize) -> ValueRead
 
 // ---- the first word of a rule's line
 
-#[derive(Drop)]
+#[derive(Clone, Copy)]
 pub enum RuleWord {
     Rule,
     If,

@@ -1,4 +1,5 @@
 // Judges a rule group: its lines, seen one after another, make a sketch, and the sketch says whether the group is taken.
+#![tactic(auto)]
 ghost use Rattle.std.specs.Prelude.{◌≡◌, List, ℕ, ◌+◌, ◌≤◌, ◌<◌, length};
 ghost use Rattle.scope.specs.Records.{Network, Clause, with_clauses};
 ghost use Rattle.scope.specs.Sections.{room_clauses};
@@ -15,7 +16,7 @@ use scope::{Counts, Found, Kind, Reason};
 // ---- the lines
 
 // What the lines of a group have said so far; of its clauses only how many there are, and of which kinds.
-#[derive(Drop)]
+#[derive(Clone, Copy)]
 pub struct Sketch {
     pub id: Field,
     pub ranked: bool,
@@ -27,7 +28,7 @@ pub struct Sketch {
     pub actions: bool,
 }
 
-#[derive(Drop)]
+#[derive(Clone, Copy)]
 pub enum SketchRead {
     Good(Sketch),
     Refused(Reason),
@@ -101,7 +102,7 @@ pub fn see(q: Sketch, read: LineRead) -> SketchRead
 
 // ---- the group
 
-#[derive(Drop)]
+#[derive(Clone, Copy)]
 pub enum Judged {
     Good(Span),
     Refused(Reason),

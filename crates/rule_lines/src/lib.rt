@@ -1,5 +1,6 @@
 // Reads one line of a rule group: what it says, by its first word and by whether a THEN and an ELSE were read before it. An action's link is looked up; nothing is
 // stored here.
+#![tactic(auto)]
 ghost use Rattle.std.specs.Prelude.{◌≡◌, List, ℕ, length};
 ghost use Rattle.leaf_fields.specs.Fields.{fields_at, name_in, part, Fits};
 ghost use Rattle.scope.specs.Records.{Network, link_ids, lookup};
@@ -17,7 +18,7 @@ use scope::{Action, Condition, Found, Kind, Operator, Reason};
 
 // ---- actions
 
-#[derive(Drop)]
+#[derive(Clone, Copy)]
 pub enum ActionRead {
     Read(Action),
     Refused(Reason),
@@ -99,7 +100,7 @@ fn read_rule_action(
 // ---- a line of a group
 
 // An action, and whether a THEN and an ELSE were read with it or before it.
-#[derive(Drop)]
+#[derive(Clone, Copy)]
 pub struct Acted {
     pub action: Action,
     pub acting: bool,
@@ -107,7 +108,7 @@ pub struct Acted {
 }
 
 // What a line says.
-#[derive(Drop)]
+#[derive(Clone, Copy)]
 pub enum LineRead {
     Named(Span),
     Ranked(u64),

@@ -1,4 +1,5 @@
 // What the words of a rule's clauses say: a comparison, the value of a condition, and the value of an action.
+#![tactic(auto)]
 ghost use Rattle.std.specs.Prelude.{◌≡◌, ◌||◌, [], ℕ};
 ghost use Rattle.leaf_decimals.specs.Numbers.{number_of};
 ghost use Rattle.leaf_letters.specs.Words.{same};
@@ -13,7 +14,7 @@ use scope::{Comparison, LinkStatus, Reason, Value};
 
 // ---- the comparison
 
-#[derive(Drop)]
+#[derive(Clone, Copy)]
 pub enum ComparisonRead {
     Known(Comparison),
     Unknown,
@@ -62,7 +63,7 @@ pub fn read_comparison(w: &[u8]) -> ComparisonRead
 
 // ---- the value
 
-#[derive(Drop)]
+#[derive(Clone, Copy)]
 pub enum ValueRead {
     Read(Value),
     Refused(Reason),

@@ -1,8 +1,9 @@
 // The vocabulary of document 01, declared once. What each word means is said in specs/, heading by heading of the paper.
+#![tactic(auto)]
 use leaf_fields::{Field, Span};
 
 // "Sections read and sections passed over": the thirteen that are read, and whatever is passed over.
-#[derive(Drop)]
+#[derive(Clone, Copy)]
 pub enum Section {
     Junctions,
     Reservoirs,
@@ -21,7 +22,7 @@ pub enum Section {
 }
 
 // "Numbers of the answers": why something is refused. specs/Answers.antt gives each its number.
-#[derive(Drop)]
+#[derive(Clone, Copy)]
 pub enum Reason {
     Missing,
     Malformed,
@@ -41,7 +42,7 @@ pub enum Reason {
 }
 
 // The records that are looked up by their names.
-#[derive(Drop)]
+#[derive(Clone, Copy)]
 pub enum Kind {
     Nodes,
     Links,
@@ -51,14 +52,14 @@ pub enum Kind {
 }
 
 // What a name's lookup gives: the first place in its table.
-#[derive(Drop)]
+#[derive(Clone, Copy)]
 pub enum Found {
     At(usize),
     Nowhere,
 }
 
 // A tank's six numbers, its volume curve and whether it may overflow.
-#[derive(Drop)]
+#[derive(Clone, Copy)]
 pub struct Tank {
     pub elevation: f64,
     pub initial: f64,
@@ -70,14 +71,14 @@ pub struct Tank {
     pub overflow: bool,
 }
 
-#[derive(Drop)]
+#[derive(Clone, Copy)]
 pub enum PipeStatus {
     Open,
     Closed,
     CheckValve,
 }
 
-#[derive(Drop)]
+#[derive(Clone, Copy)]
 pub struct Pipe {
     pub long: f64,
     pub diameter: f64,
@@ -86,14 +87,14 @@ pub struct Pipe {
     pub status: PipeStatus,
 }
 
-#[derive(Drop)]
+#[derive(Clone, Copy)]
 pub struct Pump {
     pub speed: f64,
     pub head: Field,
     pub power: f64,
 }
 
-#[derive(Drop)]
+#[derive(Clone, Copy)]
 pub struct Valve {
     pub valve_type: ValveType,
     pub diameter: f64,
@@ -102,21 +103,21 @@ pub struct Valve {
     pub curve: Field,
 }
 
-#[derive(Drop)]
+#[derive(Clone, Copy)]
 pub enum LinkKind {
     Pipe(Pipe),
     Pump(Pump),
     Valve(Valve),
 }
 
-#[derive(Drop)]
+#[derive(Clone, Copy)]
 pub enum LinkStatus {
     Open,
     Closed,
     Active,
 }
 
-#[derive(Drop)]
+#[derive(Clone, Copy)]
 pub enum ValveType {
     Gpv,
     Tcv,
@@ -128,7 +129,7 @@ pub enum ValveType {
 }
 
 // The six times that are kept.
-#[derive(Drop)]
+#[derive(Clone, Copy)]
 pub enum TimeOption {
     Duration,
     HydraulicTimestep,
@@ -139,28 +140,28 @@ pub enum TimeOption {
     Dropped,
 }
 
-#[derive(Drop)]
+#[derive(Clone, Copy)]
 pub enum SystemAttribute {
     Demand,
     Time,
     Clocktime,
 }
 
-#[derive(Drop)]
+#[derive(Clone, Copy)]
 pub enum NodeAttribute {
     Demand,
     Head,
     Pressure,
 }
 
-#[derive(Drop)]
+#[derive(Clone, Copy)]
 pub enum TankAttribute {
     Level,
     Filltime,
     Draintime,
 }
 
-#[derive(Drop)]
+#[derive(Clone, Copy)]
 pub enum LinkAttribute {
     Flow,
     Status,
@@ -168,7 +169,7 @@ pub enum LinkAttribute {
 }
 
 // What a condition looks at: one of four kinds, each with its own attribute.
-#[derive(Drop)]
+#[derive(Clone, Copy)]
 pub enum Target {
     System(SystemAttribute),
     Node(NodeAttribute),
@@ -176,7 +177,7 @@ pub enum Target {
     Link(LinkAttribute),
 }
 
-#[derive(Drop)]
+#[derive(Clone, Copy)]
 pub enum Comparison {
     Equal,
     NotEqual,
@@ -186,21 +187,21 @@ pub enum Comparison {
     AtMost,
 }
 
-#[derive(Drop)]
+#[derive(Clone, Copy)]
 pub enum Operator {
     And,
     Or,
 }
 
 // A number, or one of the three status words.
-#[derive(Drop)]
+#[derive(Clone, Copy)]
 pub enum Value {
     Number(f64),
     Status(LinkStatus),
 }
 
 // A condition of a rule. The system has no name.
-#[derive(Drop)]
+#[derive(Clone, Copy)]
 pub struct Condition {
     pub operator: Operator,
     pub target: Target,
@@ -210,7 +211,7 @@ pub struct Condition {
 }
 
 // An action of a rule: a link by its place and its name, the status or the setting that it gets, and whether it is an else action.
-#[derive(Drop)]
+#[derive(Clone, Copy)]
 pub struct Action {
     pub link: usize,
     pub name: Span,
@@ -219,7 +220,7 @@ pub struct Action {
 }
 
 // How many records of each kind there are.
-#[derive(Drop)]
+#[derive(Clone, Copy)]
 pub struct Counts {
     pub nodes: usize,
     pub links: usize,
@@ -233,14 +234,14 @@ pub struct Counts {
 }
 
 // What strict reading answers: 0 and line 0, or the number and the line of the first refused piece.
-#[derive(Drop)]
+#[derive(Clone, Copy)]
 pub struct Answer {
     pub number: u8,
     pub line: usize,
 }
 
 // What a survey answers: 0, or the number of a text refused whole; the lines of the text and how many are of each class.
-#[derive(Drop)]
+#[derive(Clone, Copy)]
 pub struct Survey {
     pub number: u8,
     pub lines: usize,

@@ -1,4 +1,5 @@
 // What one clause adds to the counts of closings, openings, activations and settings.
+#![tactic(auto)]
 ghost use Rattle.std.specs.Prelude.{◌≡◌, ◌&&◌, ◌-◌};
 ghost use Rattle.scope.specs.Sections.{room_clauses};
 ghost use Rattle.sheet_actions.specs.Steps.{is_branch, is_at, Few, with_status, with_move, with_clause};
@@ -7,7 +8,7 @@ use scope::{Action, LinkStatus, Value};
 use stored_records::Clause;
 
 // How many actions give the status CLOSED, OPEN and ACTIVE, and how many a setting.
-#[derive(Drop)]
+#[derive(Clone, Copy)]
 pub struct Moves {
     pub closes: usize,
     pub opens: usize,
@@ -16,7 +17,7 @@ pub struct Moves {
 }
 
 // Whose actions are counted: those of any link, or of the link at a place.
-#[derive(Drop)]
+#[derive(Clone, Copy)]
 pub enum Which {
     Any,
     One(usize),

@@ -1,4 +1,5 @@
 // Stores what a line of PIPES, PUMPS or VALVES says (parse_pipes, parse_pumps and parse_valves read it): the two nodes are looked up and the link is appended.
+#![tactic(auto)]
 ghost use Rattle.std.specs.Prelude.{◌≡◌, List, ℕ, ◌+◌, ◌*◌, ◌≤◌, ◌<◌, length, take};
 ghost use Rattle.leaf_fields.specs.Fields.{Name, fields_at, name_in, Fits};
 ghost use Rattle.scope.specs.Records.{Network};
@@ -20,7 +21,7 @@ use scope::{Counts, Found, Kind, LinkKind, Reason};
 use table_rows::Kept;
 
 // The places of the two nodes.
-#[derive(Drop)]
+#[derive(Clone, Copy)]
 pub enum EndsFound {
     Both(usize, usize),
     NotBoth,

@@ -1,4 +1,5 @@
 // Reads a line of TIMES, and stores what it says.
+#![tactic(auto)]
 ghost use Rattle.std.specs.Prelude.{◌≡◌, ◌&&◌, ◌≤◌, length, take};
 ghost use Rattle.scope.specs.Layout.{record_words};
 ghost use Rattle.leaf_fields.specs.Fields.{fields_at, name_in};
@@ -18,13 +19,13 @@ use table_rows::Kept;
 // ---- what a line says
 
 // Which option, and how many seconds.
-#[derive(Drop)]
+#[derive(Clone, Copy)]
 pub struct TimeLine {
     pub option: TimeOption,
     pub seconds: u64,
 }
 
-#[derive(Drop)]
+#[derive(Clone, Copy)]
 pub enum TimesRead {
     Timed(TimeLine),
     NoTime(Reason),

@@ -1,4 +1,5 @@
 // How many of the stored records belong to another: a junction's demands, a curve's points, a pattern's multipliers, a rule's conditions and actions.
+#![tactic(auto)]
 ghost use Rattle.std.specs.Prelude.{◌≡◌, List, ◌++◌, ℕ, ◌-◌, ◌≤◌, ◌<◌, length, get_or, drop};
 ghost use Rattle.scope.specs.Layout.{record_words};
 ghost use Rattle.scope.specs.Records.{Network, counts_of};
@@ -20,7 +21,7 @@ pub fn one_if(holds: bool) -> usize
 // ---- the records that name the place of another
 
 // A demand names its node, a point its curve, a multiplier its pattern.
-#[derive(Drop)]
+#[derive(Clone, Copy)]
 pub enum Part {
     Demand,
     Point,

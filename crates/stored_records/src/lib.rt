@@ -1,4 +1,5 @@
 // Nodes, links, rules and their clauses read back by value from the two tables that a reading filled.
+#![tactic(auto)]
 ghost use Rattle.std.specs.Prelude.{◌≡◌, List, ◌+◌, ◌≤◌, ◌<◌, Float, length, get_or};
 ghost use Rattle.scope.specs.Records.{Network, no_node, no_link, no_rule, no_clause};
 ghost use Rattle.scope.specs.Sections.{room_nodes, room_links, room_rules, room_clauses};
@@ -13,7 +14,7 @@ use stored_words::Amount;
 
 // ---- what the records are
 
-#[derive(Drop)]
+#[derive(Clone, Copy)]
 pub struct Junction {
     pub elevation: f64,
     pub emitter: f64,
@@ -21,14 +22,14 @@ pub struct Junction {
 }
 
 // The index is the pattern's place, once the text is read to its end.
-#[derive(Drop)]
+#[derive(Clone, Copy)]
 pub struct Reservoir {
     pub elevation: f64,
     pub pattern: Field,
     pub index: Found,
 }
 
-#[derive(Drop)]
+#[derive(Clone, Copy)]
 pub enum NodeKind {
     Junction(Junction),
     Reservoir(Reservoir),
@@ -36,7 +37,7 @@ pub enum NodeKind {
 }
 
 // A node without a place has x and y 0.
-#[derive(Drop)]
+#[derive(Clone, Copy)]
 pub struct Node {
     pub id: Span,
     pub kind: NodeKind,
@@ -46,7 +47,7 @@ pub struct Node {
 }
 
 // The ends are places of nodes.
-#[derive(Drop)]
+#[derive(Clone, Copy)]
 pub struct Link {
     pub id: Span,
     pub start: usize,
@@ -55,7 +56,7 @@ pub struct Link {
 }
 
 // A rule's clauses are `count` of the clauses from the place `first` on.
-#[derive(Drop)]
+#[derive(Clone, Copy)]
 pub struct Rule {
     pub id: Span,
     pub first: usize,
@@ -63,7 +64,7 @@ pub struct Rule {
     pub priority: Amount,
 }
 
-#[derive(Drop)]
+#[derive(Clone, Copy)]
 pub enum Clause {
     Condition(Condition),
     Action(Action),

@@ -1,4 +1,5 @@
 // Curves, patterns, demands and times read back by value from the two tables that a reading filled.
+#![tactic(auto)]
 ghost use Rattle.std.specs.Prelude.{◌≡◌, List, ◌≤◌, ◌<◌, Float, length, get_or};
 ghost use Rattle.std.proofs.Math.Option.{none};
 ghost use Rattle.scope.specs.Records.{Network, no_name, no_demand, no_point, no_multiplier};
@@ -14,18 +15,18 @@ use stored_words::Amount;
 
 // ---- what the records are
 
-#[derive(Drop)]
+#[derive(Clone, Copy)]
 pub struct Curve {
     pub id: Span,
 }
 
-#[derive(Drop)]
+#[derive(Clone, Copy)]
 pub struct Pattern {
     pub id: Span,
 }
 
 // The curve is the place of the point's curve.
-#[derive(Drop)]
+#[derive(Clone, Copy)]
 pub struct Point {
     pub curve: usize,
     pub x: f64,
@@ -33,14 +34,14 @@ pub struct Point {
 }
 
 // The pattern is the place of the multiplier's pattern.
-#[derive(Drop)]
+#[derive(Clone, Copy)]
 pub struct Multiplier {
     pub pattern: usize,
     pub value: f64,
 }
 
 // The node is the place of the junction; `own` marks the demand of the junction's own line.
-#[derive(Drop)]
+#[derive(Clone, Copy)]
 pub struct Demand {
     pub node: usize,
     pub own: bool,

@@ -1,4 +1,5 @@
 // A name, a place and an amount read back from their words.
+#![tactic(auto)]
 ghost use Rattle.std.specs.Prelude.{◌≡◌};
 ghost use Rattle.stored_words.specs.Words.{span_from, field_from, found_from, amount_from};
 
@@ -6,7 +7,7 @@ use leaf_fields::{Field, Span};
 use scope::Found;
 
 // A number that may be unset.
-#[derive(Drop)]
+#[derive(Clone, Copy)]
 pub enum Amount {
     Set(u64),
     Unset,

@@ -1,5 +1,6 @@
 // Every number of the tables' layout, by its name. Each function answers the definition's number, so the layout of the code (crates/table_rows/src) is that of the definitions
 // (crates/scope/specs/Layout.antt). The program layout prints them.
+#![tactic(auto)]
 ghost use Rattle.std.specs.Prelude.{◌≡◌};
 ghost use Rattle.table_layout.specs.Places.{region_at, region_width, region_most, numbers_at, numbers_width, room_long, count_place, node_word_place};
 ghost use Rattle.table_layout.specs.Places.{node_number_place, link_word_place, link_number_place, series_place, rule_word_place, clause_word_place, inner_place};
@@ -7,7 +8,7 @@ ghost use Rattle.table_layout.specs.Places.{slots_place};
 
 // ---- rooms: how long each table must be, and how long a text may be
 
-#[derive(Drop)]
+#[derive(Clone, Copy)]
 pub enum Room {
     Text,
     Words,
@@ -30,7 +31,7 @@ pub fn room_long(x: Room) -> usize
 
 // ---- the regions of the words that hold records: where each starts, how many words a record has, how many there can be
 
-#[derive(Drop)]
+#[derive(Clone, Copy)]
 pub enum Region {
     Nodes,
     Links,
@@ -97,7 +98,7 @@ pub fn region_most(x: Region) -> usize
 
 // ---- the regions of the numbers, for the same records
 
-#[derive(Drop)]
+#[derive(Clone, Copy)]
 pub enum Numbers {
     Node,
     Link,
@@ -135,7 +136,7 @@ pub fn numbers_width(x: Numbers) -> usize
 
 // ---- the counts, which stand last among the words
 
-#[derive(Drop)]
+#[derive(Clone, Copy)]
 pub enum Count {
     CountsAt,
     CountsWidth,
@@ -170,7 +171,7 @@ pub fn count_place(x: Count) -> usize
 
 // ---- the words of an id and of a node
 
-#[derive(Drop)]
+#[derive(Clone, Copy)]
 pub enum NodeWord {
     IdPlace,
     IdLength,
@@ -197,7 +198,7 @@ pub fn node_word_place(x: NodeWord) -> usize
 
 // ---- the numbers of a node
 
-#[derive(Drop)]
+#[derive(Clone, Copy)]
 pub enum NodeNumber {
     NodeElevation,
     JunctionEmitter,
@@ -228,7 +229,7 @@ pub fn node_number_place(x: NodeNumber) -> usize
 
 // ---- the words of a link
 
-#[derive(Drop)]
+#[derive(Clone, Copy)]
 pub enum LinkWord {
     Start,
     End,
@@ -253,7 +254,7 @@ pub fn link_word_place(x: LinkWord) -> usize
 
 // ---- the numbers of a link
 
-#[derive(Drop)]
+#[derive(Clone, Copy)]
 pub enum LinkNumber {
     PipeLength,
     PipeDiameter,
@@ -284,7 +285,7 @@ pub fn link_number_place(x: LinkNumber) -> usize
 
 // ---- the numbers of a point, the words of a demand and of a time
 
-#[derive(Drop)]
+#[derive(Clone, Copy)]
 pub enum Series {
     PointX,
     PointY,
@@ -315,7 +316,7 @@ pub fn series_place(x: Series) -> usize
 
 // ---- the words of a rule
 
-#[derive(Drop)]
+#[derive(Clone, Copy)]
 pub enum RuleWord {
     First,
     Count,
@@ -336,7 +337,7 @@ pub fn rule_word_place(x: RuleWord) -> usize
 
 // ---- the words of a clause
 
-#[derive(Drop)]
+#[derive(Clone, Copy)]
 pub enum ClauseWord {
     Kind,
     Status,
@@ -367,7 +368,7 @@ pub fn clause_word_place(x: ClauseWord) -> usize
 
 // ---- what only the library needs of an id, a name and the tables
 
-#[derive(Drop)]
+#[derive(Clone, Copy)]
 pub enum Inner {
     LinesRoom,
     IdKey,
@@ -402,7 +403,7 @@ pub fn inner_place(x: Inner) -> usize
 
 // ---- the slots, which only the library needs
 
-#[derive(Drop)]
+#[derive(Clone, Copy)]
 pub enum Slots {
     NodeSlotsAt,
     LinkSlotsAt,

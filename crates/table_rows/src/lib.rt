@@ -1,4 +1,5 @@
 // The two tables that the caller lends: their layout, and what is stored of a record.
+#![tactic(auto)]
 ghost use Rattle.std.specs.Prelude.{◌≡◌, ◌+◌, ◌*◌, ◌≤◌, ◌<◌, length, replicate};
 ghost use Rattle.scope.specs.Sections.{room_curves};
 ghost use Rattle.leaf_fields.specs.Fields.{name_in};
@@ -273,7 +274,7 @@ pub const CLAUSE_NUMBERS_AT: usize = DEMAND_NUMBERS_AT + DEMANDS_MOST * DEMAND_N
 pub const NUMBERS_ROOM: usize = CLAUSE_NUMBERS_AT + CLAUSES_MOST * CLAUSE_NUMBERS_WIDTH;
 
 // What storing a record gives: the new counts, or why nothing was stored.
-#[derive(Drop)]
+#[derive(Clone, Copy)]
 pub enum Kept {
     Stored(Counts),
     Refused(Reason),

@@ -1,4 +1,5 @@
 // Surveys a text and prints how much of it was read: the records, the conditions and actions, the lines by class, and every refusal.
+#![tactic(auto)]
 use program_input::Input;
 use scope::Survey;
 use write_text::{count, newline, write};

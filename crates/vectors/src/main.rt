@@ -6,6 +6,7 @@
 //
 // Bits and values are 16 hexadecimal digits; 2, 7 and 22 are the numbers of document 01. One space stands between two fields,
 // and a text may be empty. A line that begins with # says where the lines after it come from.
+#![tactic(auto)]
 use leaf_clock::Time;
 use leaf_counts::Count;
 use leaf_decimals::Number;
@@ -116,7 +117,7 @@ fn is_vector(line: &[u8]) -> bool {
     line[0] != b'#'
 }
 
-#[derive(Drop)]
+#[derive(Clone, Copy)]
 struct Tally {
     agreed: u32,
     of: u32,

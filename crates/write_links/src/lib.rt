@@ -1,4 +1,5 @@
 // The links of a network, as the dump writes them: docs/DUMP.md has the form.
+#![tactic(auto)]
 use scope::{LinkKind, LinkStatus, Pipe, PipeStatus, Pump, Valve, ValveType};
 use stored_records::Link;
 use write_text::{count, flag, newline, number, write};

@@ -1,4 +1,5 @@
 // The nodes of a network and a junction's demands, as the dump writes them: docs/DUMP.md has the form.
+#![tactic(auto)]
 use scope::Tank;
 use stored_parts::Part;
 use stored_records::{Junction, Node, NodeKind, Reservoir};

@@ -1,4 +1,5 @@
 // Says in words what a survey refused: each line and each rule, with its number, the reason and the line as it stands.
+#![tactic(auto)]
 use leaf_fields::Span;
 use scope::Survey;
 use write_text::{decimal, newline, write};

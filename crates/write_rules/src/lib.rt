@@ -1,4 +1,5 @@
 // The rules of a network with their conditions and actions, as the dump writes them: docs/DUMP.md has the form.
+#![tactic(auto)]
 use scope::{
     Action, Comparison, Condition, LinkAttribute, NodeAttribute, Operator, SystemAttribute,
     TankAttribute, Target, Value,

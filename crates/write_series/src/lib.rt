@@ -1,4 +1,5 @@
 // The curves, patterns and times of a network, as the dump writes them: docs/DUMP.md has the form.
+#![tactic(auto)]
 use leaf_fields::Span;
 use stored_parts::Part;
 use stored_words::Amount;

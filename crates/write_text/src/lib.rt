@@ -1,4 +1,5 @@
 // What the programs write: words, counts and numbers, and names as they stand in the text.
+#![tactic(auto)]
 use leaf_fields::{Field, Span};
 use libc::STDOUT_FILENO;
 use scope::{Found, LinkStatus};
