@@ -561,7 +561,7 @@ module _ (text : List ℕ) where
 
   sit-all : (e from : ℕ) (ns : List Name) → Ordered (take e text) from ns → All ns
   sit-all e from [] o = nothing
-  sit-all e from (n ∷ ns) (s, o) = each (sits e from n s) (sit-all e _ ns o)
+  sit-all e from (n ∷ ns) (s, o) = each (sits e from n s) (sit-all e (suc (n.at + length n.letters)) ns o)
 
   fields-sit : (at : ℕ) (c : List ℕ) → Stood at c → All (fields_of at c)
   fields-sit at c h =

@@ -1,0 +1,49 @@
+-- `leaf_digits::class_of` meets its contract. Assumes nothing.
+use mathlib.Core.Path.{sym, ap}
+use mathlib.Core.Logic.{⊎_elim}
+use native.Mathlib.Omega.{arith}
+use Rattle.leaf_digits.specs.Bytes.{class_of}
+use Rattle.leaf_digits.proofs.Bytes.{space, digit, other-low, other-mid, other-high}
+use Rattle.leaf_digits.proofs.class_of.Goals as goal
+
+pub returns-in-43 : goal.returns-in-43
+unfolding class_of
+returns-in-43 c = ⊎_elim (λ e. sym (ap class_of e)) (λ e. sym (ap class_of e)) c.in-43.is
+
+pub returns-in-46 : goal.returns-in-46
+unfolding class_of
+returns-in-46 c = sym (ap class_of c.in-46.is)
+
+pub returns-in-69 : goal.returns-in-69
+unfolding class_of
+returns-in-69 c = ⊎_elim (λ e. sym (ap class_of e)) (λ e. sym (ap class_of e)) c.in-69.is
+
+pub returns-in-48-to-57 : goal.returns-in-48-to-57
+unfolding class_of
+returns-in-48-to-57 c = digit c.args.b (omega arith) (omega arith)
+
+pub returns-in_default : goal.returns-in_default
+unfolding class_of
+returns-in_default c =
+    let r = c.in_default-1.rest in
+    other-low _ r.0.0.0.1 r.0.0.1 r.0.1 r.1 (omega arith)
+
+pub returns-in_default-2 : goal.returns-in_default-2
+unfolding class_of
+returns-in_default-2 c =
+    let r = c.in_default-1.rest in
+    other-mid _ r.0.0.0.1 r.0.0.1 r.0.1 r.1 (omega arith) (omega arith)
+
+pub returns-in_default-3 : goal.returns-in_default-3
+unfolding class_of
+returns-in_default-3 c =
+    let r = c.in_default-1.rest in
+    other-high _ r.0.0.0.1 r.0.0.1 r.0.1 r.1 (omega arith)
+
+pub returns-in-9-to-13 : goal.returns-in-9-to-13
+unfolding class_of
+returns-in-9-to-13 c = sym (ap class_of c.in-9-to-13.keys1)
+
+pub returns-in-9-to-13-2 : goal.returns-in-9-to-13-2
+unfolding class_of
+returns-in-9-to-13-2 c = space c.args.b (omega arith) (omega arith)

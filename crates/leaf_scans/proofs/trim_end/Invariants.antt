@@ -1,0 +1,15 @@
+-- `leaf_scans::trim_end` meets its contract. Assumes nothing.
+use Prim.Native.Nat.{◌≤◌}
+use native.Mathlib.Omega.{arith}
+use mathlib.Core.Path.{◌≡◌, sym, ap, ◌∙◌}
+use lib.ListN.{length, take}
+use lib.Seq.{take-length}
+use Rattle.leaf_scans.specs.Lines.{end_trimmed}
+use Rattle.leaf_scans.proofs.LineLaws.{trim-more, trim-stop, trim-nothing}
+use Rattle.leaf_scans.proofs.trim_end.Given as goal
+
+abbrev pub invariant-loop-e : goal.invariant-loop-e
+invariant-loop-e l = (l.e ≤ length l.l) × (end_trimmed (take l.e l.l) ≡ end_trimmed l.l)
+
+abbrev pub decreases-loop-e : goal.decreases-loop-e
+decreases-loop-e l = l.e

@@ -1,0 +1,13 @@
+-- `leaf_words::find_either` meets its contract. Assumes nothing.
+use Rattle.std.proofs.Common.{◌≡◌, ◌+◌, ◌-◌, ◌≤◌, length, drop, refl, ◌∙◌, arith, rules}
+use lib.Count.{trailing_le}
+use Rattle.leaf_words.specs.Scan.{clear_len}
+use Rattle.leaf_words.proofs.ScanLaws.{length_part, clear-end}
+use Rattle.leaf_words.proofs.MarkLaws.{mark-found, mark-past}
+use Rattle.leaf_words.proofs.find_either.Given as goal
+
+abbrev pub invariant-loop-i : goal.invariant-loop-i
+invariant-loop-i l = (l.i + clear_len l.a l.b (drop l.i l.text) ≡ l.from + clear_len l.a l.b (drop l.from l.text)) × (l.i ≤ length l.text)
+
+abbrev pub decreases-loop-i : goal.decreases-loop-i
+decreases-loop-i l = length l.text - l.i

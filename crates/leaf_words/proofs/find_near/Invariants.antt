@@ -1,0 +1,11 @@
+-- `leaf_words::find_near` meets its contract. Assumes nothing.
+use Rattle.std.proofs.Common.{◌≡◌, ◌+◌, ◌-◌, length, drop, refl, add-one, arith}
+use Rattle.leaf_words.specs.Scan.{clear_len}
+use Rattle.leaf_words.proofs.ScanLaws.{clear-on, clear_first, clear_second, clear-end}
+use Rattle.leaf_words.proofs.find_near.Given as goal
+
+abbrev pub invariant-loop-i : goal.invariant-loop-i
+invariant-loop-i l = l.i + clear_len l.a l.b (drop l.i l.text) ≡ l.from + clear_len l.a l.b (drop l.from l.text)
+
+abbrev pub decreases-loop-i : goal.decreases-loop-i
+decreases-loop-i l = length l.text - l.i

@@ -1,0 +1,12 @@
+-- `leaves::leaf_count` meets its contract. Assumes nothing.
+use mathlib.Core.Path.{sym, ◌∙◌}
+use Rattle.leaf_counts.specs.Counts.{count_answer}
+use Rattle.leaves.specs.Values.{whole_in}
+use Rattle.leaves.proofs.Answers.{both}
+use Rattle.leaves.proofs.leaf_count.Goals as goal
+
+pub returns-in-Whole : goal.returns-in-Whole
+returns-in-Whole c = both count_answer whole_in _ _ (sym c.in-Whole.is ∙ c.read_count-n.ensures)
+
+pub returns-in-Uncounted : goal.returns-in-Uncounted
+returns-in-Uncounted c = both count_answer whole_in _ _ (sym c.in-Uncounted.is ∙ c.read_count-n.ensures)

@@ -1,0 +1,13 @@
+-- `parse_tanks::take_overflow` meets its contract. Assumes nothing.
+use mathlib.Core.Path.{◌≡◌}
+use mathlib.Core.List.{◌∷◌}
+use Rattle.leaf_fields.specs.Fields.{Fits, fields_at, name_in}
+use Rattle.parse_tanks.proofs.take_overflow.Goals as goal
+
+pub returns-in_default : goal.returns-in_default
+returns-in_default c = rw (c.next_field-f.ensures.nothing c.in_default.is)
+
+pub returns : goal.returns
+returns c =
+    let field : let a = c.args in let l = a.l.now in (fields_at l a.at ≡ name_in l c.in-Taken.s ∷ fields_at l c.in-Taken.s.end) × Fits l c.in-Taken.s = c.next_field-f.ensures.taken _ c.in-Taken.is in
+    rw ((field).0, ← c.letters_of.ensures) c.spells.ensures

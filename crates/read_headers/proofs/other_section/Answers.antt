@@ -1,0 +1,43 @@
+-- `read_headers::other_section` meets its contract. Assumes nothing.
+use mathlib.Core.Path.{sym, ◌∙◌}
+use Rattle.read_headers.specs.Sections.{other_section}
+use Rattle.read_headers.proofs.other_section.Goals as goal
+
+pub returns-then-equal : goal.returns-then-equal
+unfolding other_section
+returns-then-equal c = rw (sym c.equal.ensures ∙ c.if-equal.true)
+
+pub returns-then-equal-2 : goal.returns-then-equal-2
+unfolding other_section
+returns-then-equal-2 c = rw (sym c.equal.ensures ∙ c.if-equal.false, sym c.equal-2.ensures ∙ c.if-equal-2.true)
+
+pub returns-then-equal-3 : goal.returns-then-equal-3
+unfolding other_section
+returns-then-equal-3 c =
+    let equal = c.equal in
+    let if1 = c.if-equal in
+    let equal2 = c.equal-2 in
+    let if2 = c.if-equal-2 in
+    rw (sym equal.ensures ∙ if1.false, sym equal2.ensures ∙ if2.false, sym c.equal-3.ensures ∙ c.if-equal-3.true)
+
+pub returns-then-equal-4 : goal.returns-then-equal-4
+unfolding other_section
+returns-then-equal-4 c =
+    let equal = c.equal in
+    let if1 = c.if-equal in
+    let equal2 = c.equal-2 in
+    let if2 = c.if-equal-2 in
+    let equal3 = c.equal-3 in
+    let if3 = c.if-equal-3 in
+    rw (sym equal.ensures ∙ if1.false, sym equal2.ensures ∙ if2.false, sym equal3.ensures ∙ if3.false, sym c.equal-4.ensures ∙ c.if-equal-4.true)
+
+pub returns : goal.returns
+unfolding other_section
+returns c =
+    let equal = c.equal in
+    let if1 = c.if-equal in
+    let equal2 = c.equal-2 in
+    let if2 = c.if-equal-2 in
+    let equal3 = c.equal-3 in
+    let if3 = c.if-equal-3 in
+    rw (sym equal.ensures ∙ if1.false, sym equal2.ensures ∙ if2.false, sym equal3.ensures ∙ if3.false, sym c.equal-4.ensures ∙ c.if-equal-4.false)

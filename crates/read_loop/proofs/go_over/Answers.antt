@@ -1,0 +1,141 @@
+-- `read_loop::go_over` meets its contract. Assumes nothing.
+use Prim.Native.Nat.{◌-◌}
+use native.Mathlib.Omega.{arith}
+use mathlib.Core.Path.{sym, ◌∙◌}
+use lib.ListN.{length}
+use Rattle.table_rows.proofs.AfterLaws.{holds-words, holds-numbers}
+use Rattle.read_steps.proofs.StepLaws.{sound}
+use Rattle.read_runs.proofs.OnwardLaws.{fits, at_after}
+use Rattle.read_loop.proofs.AlongLaws.{Along, begin, plain-asks, plain-on, onward, turn-asks, turn_on, turn-stops, ended}
+use Rattle.read_loop.proofs.go_over.Goals as goal
+
+pub loop-s-init : goal.loop-s-init
+loop-s-init c =
+    let a = c.args in
+    let n = c.new-s in
+    begin a.marking a.text.now a.words.now a.numbers.now a.classes.now a.reasons.now n.result n.ensures c.requires.0 c.requires.1 c.requires.2
+
+pub plain_lines-plain-requires : goal.plain_lines-plain-requires
+plain_lines-plain-requires c = c.loop-s.invariant.ready
+
+pub mark_plain-requires : goal.mark_plain-requires
+mark_plain-requires c =
+    let i = c.loop-s.invariant in
+    let o = c.plain_lines-plain.ensures in
+    plain-asks i o.0
+
+pub turn_after-t-requires : goal.turn_after-t-requires
+turn_after-t-requires c =
+    let o = c.plain_lines-plain.ensures in
+    let k = c.mark_plain in
+    let i = c.loop-s.invariant in
+    let g = plain-on i o.0 k.ensures k.auto.1.0 in
+    (fits g.ready c.if-s-text.true, o.1)
+
+pub mark_turn-requires : goal.mark_turn-requires
+mark_turn-requires c =
+    let o = c.plain_lines-plain.ensures in
+    let k = c.mark_plain in
+    let i = c.loop-s.invariant in
+    let g = plain-on i o.0 k.ensures k.auto.1.0 in
+    turn-asks g c.if-s-text.true c.turn_after-t.ensures
+
+pub shape_of-words-then-stops : goal.shape_of-words-then-stops
+shape_of-words-then-stops c =
+    let o = c.plain_lines-plain.ensures in
+    let k = c.mark_plain in
+    let i = c.loop-s.invariant in
+    let g = plain-on i o.0 k.ensures k.auto.1.0 in
+    let t = c.turn_after-t in
+    t.auto.1.1.0 ∙ holds-words g.ready.stands.recs ∙ sym (holds-words c.requires.1)
+
+pub shape_of-numbers-then-stops : goal.shape_of-numbers-then-stops
+shape_of-numbers-then-stops c =
+    let o = c.plain_lines-plain.ensures in
+    let k = c.mark_plain in
+    let i = c.loop-s.invariant in
+    let g = plain-on i o.0 k.ensures k.auto.1.0 in
+    let t = c.turn_after-t in
+    t.auto.1.1.1.0 ∙ holds-numbers g.ready.stands.recs ∙ sym (holds-numbers c.requires.1)
+
+pub shape_of-classes-then-stops : goal.shape_of-classes-then-stops
+shape_of-classes-then-stops c =
+    let o = c.plain_lines-plain.ensures in
+    let k = c.mark_plain in
+    let i = c.loop-s.invariant in
+    let g = plain-on i o.0 k.ensures k.auto.1.0 in
+    c.mark_turn.auto.1.0 ∙ g.long_c
+
+pub shape_of-reasons-then-stops : goal.shape_of-reasons-then-stops
+shape_of-reasons-then-stops c =
+    let o = c.plain_lines-plain.ensures in
+    let k = c.mark_plain in
+    let i = c.loop-s.invariant in
+    let g = plain-on i o.0 k.ensures k.auto.1.0 in
+    c.mark_turn.auto.1.1.0 ∙ g.long_r
+
+pub returns-then-stops : goal.returns-then-stops
+returns-then-stops c =
+    let o = c.plain_lines-plain.ensures in
+    let k = c.mark_plain in
+    let i = c.loop-s.invariant in
+    let g = plain-on i o.0 k.ensures k.auto.1.0 in
+    let t = c.turn_after-t in
+    let h = c.if-s-text.true in
+    let z = c.stops.ensures.0 c.if-stops.true in
+    turn-stops g h t.ensures t.result.state.line z.0 z.1
+
+pub loop-s-smaller-else-stops : goal.loop-s-smaller-else-stops
+loop-s-smaller-else-stops c =
+    let o = c.plain_lines-plain.ensures in
+    let k = c.mark_plain in
+    let i = c.loop-s.invariant in
+    let g = plain-on i o.0 k.ensures k.auto.1.0 in
+    let h = c.if-s-text.true in
+    let l = at_after i.ready o.0 in
+    omega (arith, h, l, onward g h c.turn_after-t.ensures)
+
+pub loop-s-preserved-else-stops : goal.loop-s-preserved-else-stops
+loop-s-preserved-else-stops c =
+    let o = c.plain_lines-plain.ensures in
+    let k = c.mark_plain in
+    let i = c.loop-s.invariant in
+    let g = plain-on i o.0 k.ensures k.auto.1.0 in
+    let h = c.if-s-text.true in
+    let go = c.turn_after-t.ensures in
+    let k = c.mark_turn in
+    turn_on g h go (c.stops.ensures.1 c.if-stops.false) k.ensures.0 k.auto.1.0 k.ensures.1 k.auto.1.1.0
+
+pub loop-s-smaller : goal.loop-s-smaller
+loop-s-smaller c = omega (arith, c.loop-s-test.true, c.if-s-text.false)
+
+pub loop-s-preserved : goal.loop-s-preserved
+loop-s-preserved c =
+    let o = c.plain_lines-plain.ensures in
+    let k = c.mark_plain in
+    plain-on c.loop-s.invariant o.0 k.ensures k.auto.1.0
+
+pub resolve_pattern_indices-requires : goal.resolve_pattern_indices-requires
+resolve_pattern_indices-requires c = (_, sound c.loop-s.invariant.ready.stands)
+
+pub shape_of-words : goal.shape_of-words
+shape_of-words c =
+    c.resolve_pattern_indices.auto.1.1.0
+    ∙ holds-words c.loop-s.invariant.ready.stands.recs
+    ∙ sym (holds-words c.requires.1)
+
+pub shape_of-numbers : goal.shape_of-numbers
+shape_of-numbers c =
+    holds-numbers c.loop-s.invariant.ready.stands.recs
+    ∙ sym (holds-numbers c.requires.1)
+
+pub shape_of-classes : goal.shape_of-classes
+shape_of-classes c = c.loop-s.invariant.long_c
+
+pub shape_of-reasons : goal.shape_of-reasons
+shape_of-reasons c = c.loop-s.invariant.long_r
+
+pub returns : goal.returns
+returns c =
+    let i = c.loop-s.invariant in
+    ended i c.loop-s-test.false c.resolve_pattern_indices.ensures

@@ -1,0 +1,14 @@
+-- `read_marks::mark_lines` meets its contract: the lines before number i are marked. Assumes nothing.
+use Prim.Native.Nat.{◌-◌, ◌≤◌}
+use native.Mathlib.Omega.{arith}
+use mathlib.Core.Path.{◌≡◌, refl, ap, ◌∙◌}
+use lib.ListN.{length, set, length-set}
+use Rattle.read_marks.specs.Filled.{filled}
+use Rattle.read_marks.proofs.FilledLaws.{filled_more, filled_none}
+use Rattle.read_marks.proofs.mark_lines.Given as goal
+
+abbrev pub invariant-loop-i : goal.invariant-loop-i
+invariant-loop-i l = (l.from ≤ l.i) × (l.i ≤ l.to) × (length l.classes ≡ length l.initial.classes) × (l.classes ≡ filled l.initial.classes l.from (l.i - l.from) l.class)
+
+abbrev pub decreases-loop-i : goal.decreases-loop-i
+decreases-loop-i l = l.to - l.i

@@ -1,0 +1,19 @@
+-- `rule_clauses::read_rule_condition` meets its contract. Assumes nothing.
+use mathlib.Core.Path.{sym, ap, ◌∙◌, subst}
+use Rattle.scope.specs.Rules.{condition_of}
+use Rattle.rule_clauses.specs.Clauses.{target_read, TargetFits, condition_on}
+use Rattle.rule_clauses.specs.declared.TargetRead.{TargetRead}
+use Rattle.rule_clauses.proofs.read_rule_condition.Goals as goal
+
+pub returns-in-Read : goal.returns-in-Read
+unfolding condition_of condition_on
+returns-in-Read c =
+    let a = c.args in
+    let l = a.l.now in (
+      rw (sym c.read_target-read.ensures.0 ∙ ap (target_read l) c.in-Read.is) c.condition_on.ensures.0,
+      c.condition_on.ensures.1 (subst (λ (x : TargetRead). TargetFits l x) c.in-Read.is c.read_target-read.ensures.1),
+    )
+
+pub returns-in-Refused : goal.returns-in-Refused
+unfolding condition_of
+returns-in-Refused c = (rw (sym c.read_target-read.ensures.0 ∙ ap (target_read c.args.l.now) c.in-Refused.is), tt)

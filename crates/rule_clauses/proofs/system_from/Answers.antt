@@ -1,0 +1,19 @@
+-- `rule_clauses::system_from` meets its contract. Assumes nothing.
+use mathlib.Core.Path.{◌≡◌, sym, ap, ◌∙◌}
+use mathlib.Core.List.{◌∷◌}
+use Rattle.leaf_fields.specs.Fields.{Fits, fields_at, name_in}
+use Rattle.rule_clauses.specs.Clauses.{attribute_read}
+use Rattle.rule_clauses.proofs.system_from.Goals as goal
+
+pub returns-in_default : goal.returns-in_default
+returns-in_default c = (rw (c.next_field-f.ensures.nothing c.in_default.is), tt)
+
+pub returns-in-Known : goal.returns-in-Known
+returns-in-Known c =
+    let field : let a = c.args in let l = a.l.now in (fields_at l a.at ≡ name_in l c.in-Taken.s ∷ fields_at l c.in-Taken.s.end) × Fits l c.in-Taken.s = c.next_field-f.ensures.taken _ c.in-Taken.is in
+    (rw ((field).0, ← c.letters_of.ensures, sym c.system_target-read.ensures ∙ ap attribute_read c.in-Known.is), tt)
+
+pub returns-in-Unknown : goal.returns-in-Unknown
+returns-in-Unknown c =
+    let field : let a = c.args in let l = a.l.now in (fields_at l a.at ≡ name_in l c.in-Taken.s ∷ fields_at l c.in-Taken.s.end) × Fits l c.in-Taken.s = c.next_field-f.ensures.taken _ c.in-Taken.is in
+    (rw ((field).0, ← c.letters_of.ensures, sym c.system_target-read.ensures ∙ ap attribute_read c.in-Unknown.is), tt)

@@ -1,0 +1,19 @@
+-- `rule_lines::read_line` meets its contract. Assumes nothing.
+use mathlib.Core.Path.{◌≡◌}
+use mathlib.Core.List.{◌∷◌}
+use Rattle.leaf_fields.specs.Fields.{Fits, fields_at, name_in}
+use Rattle.rule_lines.specs.Lines.{said_of}
+use Rattle.rule_lines.proofs.read_line.Goals as goal
+
+pub returns-in_default : goal.returns-in_default
+unfolding said_of
+returns-in_default c = (λ m w e. rw (c.next_field-f.ensures.nothing c.in_default.is), tt)
+
+pub line_by-requires : goal.line_by-requires
+line_by-requires c = c.requires
+
+pub returns : goal.returns
+unfolding said_of
+returns c =
+    let field : (fields_at c.args.l.now c.args.at ≡ name_in c.args.l.now c.in-Taken.s ∷ fields_at c.args.l.now c.in-Taken.s.end) × Fits c.args.l.now c.in-Taken.s = c.next_field-f.ensures.taken _ c.in-Taken.is in
+    (λ m w e. rw ((field).0, ← c.letters_of.ensures, ← c.rule_word-word.ensures) (c.line_by.ensures.0 m w e), c.line_by.ensures.1)

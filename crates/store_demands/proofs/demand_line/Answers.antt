@@ -1,0 +1,31 @@
+-- `store_demands::demand_line` meets its contract. Assumes nothing.
+use mathlib.Core.Path.{◌≡◌, refl, sym}
+use lib.ListN.{take}
+use lib.Seq.{length-take-le}
+use Rattle.leaf_fields.specs.Fields.{fields_at, Fits}
+use Rattle.scope.specs.Values.{good, bad}
+use Rattle.scope.specs.Series.{demand_of, demand_step}
+use Rattle.parse_fields.specs.Taking.{MayFit}
+use Rattle.parse_series.specs.Lines.{demand_in}
+use Rattle.store_demands.proofs.LineLaws.{demand-told}
+use Rattle.store_demands.proofs.demand_line.Goals as goal
+
+pub slice_bounds-read_demand-end : goal.slice_bounds-read_demand-end
+slice_bounds-read_demand-end c = sym (length-take-le c.args.end c.args.text.now c.requires.1)
+
+pub store_demand-requires : goal.store_demand-requires
+store_demand-requires c =
+    let is_read : (demand_of (fields_at (take c.args.end c.args.text.now) c.args.at) ≡ good (demand_in c.args.text.now c.in-Demand.d)) × Fits c.args.text.now c.in-Demand.d.id × MayFit c.args.text.now c.in-Demand.d.pattern = demand-told c.args.text.now c.args.end _ c.in-Demand.is c.read_demand-read.ensures in
+    (c.requires.0, (is_read).1, (is_read).2)
+
+pub returns-in-Demand : goal.returns-in-Demand
+unfolding demand_step
+returns-in-Demand c =
+    let is_read : (demand_of (fields_at (take c.args.end c.args.text.now) c.args.at) ≡ good (demand_in c.args.text.now c.in-Demand.d)) × Fits c.args.text.now c.in-Demand.d.id × MayFit c.args.text.now c.in-Demand.d.pattern = demand-told c.args.text.now c.args.end _ c.in-Demand.is c.read_demand-read.ensures in
+    λ m h. rw (is_read).0 (c.store_demand.ensures m h)
+
+pub returns-in-NoDemand : goal.returns-in-NoDemand
+unfolding demand_step
+returns-in-NoDemand c =
+    let no_read : demand_of (fields_at (take c.args.end c.args.text.now) c.args.at) ≡ bad c.in-NoDemand.why = demand-told c.args.text.now c.args.end _ c.in-NoDemand.is c.read_demand-read.ensures in
+    λ m h. rw (no_read) (refl, refl, refl)

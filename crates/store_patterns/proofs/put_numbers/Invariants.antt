@@ -1,0 +1,14 @@
+-- `store_patterns::put_numbers` meets its contract. Assumes nothing.
+use Prim.Native.Nat.{◌-◌}
+use native.Mathlib.Omega.{arith}
+use lib.ListN.{length}
+use Rattle.store_patterns.proofs.StoringLaws.{Placed, none-placed, one_placed, all_placed}
+use Rattle.store_patterns.proofs.put_numbers.Given as goal
+
+abbrev pub invariant-loop-i : goal.invariant-loop-i
+invariant-loop-i l =
+    Placed l.xs l.k l.pattern l.initial.words l.words l.initial.numbers l.numbers l.i
+
+abbrev pub decreases-loop-i : goal.decreases-loop-i
+decreases-loop-i l =
+    length l.xs - l.i

@@ -1,0 +1,6 @@
+-- `table_find::is_valve` meets its contract. Assumes nothing.
+use Rattle.table_rows.proofs.ReadLaws.{is-valve}
+use Rattle.table_find.proofs.is_valve.Goals as goal
+
+pub returns : goal.returns
+returns c = λ text m h hi. is-valve h c.args.i hi

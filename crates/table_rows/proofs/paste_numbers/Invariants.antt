@@ -1,0 +1,15 @@
+-- `table_rows::paste_numbers` meets its contract. Assumes nothing.
+use Prim.Native.Nat.{◌≤◌, ◌-◌}
+use native.Mathlib.Omega.{arith}
+use native.Mathlib.Numerals.{add-one}
+use mathlib.Core.Path.{◌≡◌, refl, ◌∙◌}
+use lib.ListN.{length, length-set}
+use lib.Ieee.{nan}
+use lib.Seq.{paste, paste-zero, paste-suc, take-length}
+use Rattle.table_rows.proofs.paste_numbers.Given as goal
+
+abbrev pub invariant-loop-i : goal.invariant-loop-i
+invariant-loop-i l = (l.i ≤ length l.rec) × (length l.numbers ≡ length l.initial.numbers) × (l.numbers ≡ paste l.initial.numbers l.at l.rec l.i)
+
+abbrev pub decreases-loop-i : goal.decreases-loop-i
+decreases-loop-i l = length l.rec - l.i
