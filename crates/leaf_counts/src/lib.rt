@@ -1,5 +1,6 @@
 // Counts: a whole number below 2^64, with or without a plus. specs/Counts.antt says what is a count.
 #![tactic(auto)]
+
 ghost use Rattle.std.specs.Prelude.{◌≡◌};
 ghost use Rattle.leaf_counts.specs.Counts.{whole, count_of};
 

@@ -1,26 +1,26 @@
 -- From what a match on a class tells to the grammar's test `is`. Assumes nothing.
-use mathlib.Core.Path.{◌≡◌, refl, sym, ap, ◌∙◌, subst}
-use mathlib.Core.Bool.{Bool, true, false, not, cond, ◌&&◌, ◌||◌}
-use mathlib.Core.List.{List}
+use mathlib.Core.Path.{◌≡◌, refl, sym, ap, ◌∙◌}
+use mathlib.Core.Bool.{Bool, true, false, cond, ◌&&◌, ◌||◌}
 use Prim.Native.Nat.{ℕ, ◌≤◌, ◌<◌}
 use native.Mathlib.Omega.{arith}
-use lib.Dec.{T, leb, eqb}
+use lib.Dec.{leb, eqb}
 use borrow.Author.Tests.{eq-eqb, ne_eqb, eqb-true, leb-true, le-leb, lt-leb}
-use types.Run.{OneOf, miss}
-use mir.Val.{has_key}
-use denote.Enum.Declared.{tag_of}
 use Rattle.leaf_digits.specs.declared.Class.{Class}
 use Rattle.leaf_digits.specs.declared.Class.TheVariants.{Space, Digit, Sign, Point, Exponent, Other}
 use Rattle.leaf_digits.specs.Bytes.{class_of, rank, is}
-use Rattle.leaf_digits.specs.contracts.Class.{the_type}
 
-tag-rank : (k : Class) → tag_of the_type k ≡ rank k
-tag-rank Space = refl
-tag-rank Digit = refl
-tag-rank Sign = refl
-tag-rank Point = refl
-tag-rank Exponent = refl
-tag-rank Other = refl
+-- the class that has a rank
+ranked : ℕ → Class
+ranked n = cond (eqb n 0) Space (cond (eqb n 1) Digit (cond (eqb n 2) Sign (cond (eqb n 3) Point (cond (eqb n 4) Exponent Other))))
+
+ranked_rank : (k : Class) → ranked (rank k) ≡ k
+unfolding ranked
+ranked_rank Space = refl
+ranked_rank Digit = refl
+ranked_rank Sign = refl
+ranked_rank Point = refl
+ranked_rank Exponent = refl
+ranked_rank Other = refl
 
 -- the class k of the byte b is d
 pub is-class : (d : Class) (b : ℕ) {k : Class} → k ≡ class_of b → k ≡ d → is d b ≡ true
@@ -30,9 +30,9 @@ is-class d b e q = eq-eqb (rank (class_of b)) (rank d) (ap rank (sym e ∙ q))
 pub class-is : (k : Class) (b : ℕ) → is k b ≡ true → (d : Class) → is d b ≡ eqb (rank k) (rank d)
 class-is k b e d = ap (λ (n : ℕ). eqb n (rank d)) (eqb-true (rank (class_of b)) (rank k) e)
 
--- it is one of others
-pub not-class : (d : Class) (b : ℕ) (k : Class) (ks : List ℕ) → k ≡ class_of b → OneOf ks (tag_of the_type k) → T (not (has_key ks (rank d))) → is d b ≡ false
-not-class d b k ks e h t = ne_eqb (rank (class_of b)) (rank d) (λ q. miss ks (rank d) t (subst (λ (n : ℕ). OneOf ks n) (tag-rank k ∙ ap rank e ∙ q) h))
+-- it is not d
+pub not-class : (d : Class) (b : ℕ) {k : Class} → k ≡ class_of b → (k ≡ d → ⊥) → is d b ≡ false
+not-class d b e n = ne_eqb (rank (class_of b)) (rank d) (λ q. n (e ∙ sym (ranked_rank (class_of b)) ∙ ap ranked q ∙ ranked_rank d))
 
 -- a digit's range
 pick : (s d g p x : Bool) → cond s Space (cond d Digit (cond g Sign (cond p Point (cond x Exponent Other)))) ≡ Digit → d ≡ true

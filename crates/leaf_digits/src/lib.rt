@@ -1,6 +1,7 @@
 // Bytes and runs of digits, for the readers of fields, counts and numbers. specs/Bytes.antt says of what class a byte is, and
 // specs/Digits.antt which digits a text begins with.
 #![tactic(auto)]
+
 ghost use Rattle.std.specs.Prelude.{◌≡◌, ◌+◌, ◌-◌, ◌*◌, ◌≤◌, min, length, drop};
 ghost use Rattle.leaf_digits.specs.Bytes.{class_of, is, lower};
 ghost use Rattle.leaf_digits.specs.Digits.{digits, value};

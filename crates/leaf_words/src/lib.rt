@@ -1,5 +1,6 @@
 // The first of two bytes in a text, looked for eight bytes at a time: how a line's end and its `;` are found.
 #![tactic(auto)]
+
 ghost use Rattle.std.specs.Prelude.{◌≡◌, ◌+◌, ◌*◌, ◌/◌, length, drop};
 ghost use Rattle.std.specs.Int.Count.{count_trailing_zeros};
 ghost use Rattle.leaf_words.specs.Scan.{clear_len, word};

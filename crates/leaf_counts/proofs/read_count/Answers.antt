@@ -1,6 +1,6 @@
 -- `leaf_counts::read_count` meets its contract. Assumes nothing.
 use mathlib.Core.Path.{sym, ap, ◌∙◌}
-use mathlib.Core.List.{List, [], ◌∷◌}
+use mathlib.Core.List.{List}
 use Prim.Native.Nat.{ℕ}
 use native.Mathlib.Omega.{arith}
 use Rattle.leaf_digits.specs.declared.Class.TheVariants.{Sign}
@@ -16,7 +16,7 @@ returns-then-s-eq0 c = sym (count-nil _ c.if-s-eq0.true)
 pub returns-in_default : goal.returns-in_default
 returns-in_default c =
     let s : List ℕ = c.args.s.now in
-    let n = not-class Sign _ _ (0 ∷ 1 ∷ 3 ∷ 4 ∷ 5 ∷ []) c.class_of-k.ensures c.in_default.keys2 tt in
+    let n = not-class Sign _ c.class_of-k.ensures c.in_default.not-Sign in
     c.read_whole.ensures ∙ sym (count-unsigned s (omega (arith, c.if-s-eq0.false)) n)
 
 pub returns-then-b-eq43 : goal.returns-then-b-eq43

@@ -1,16 +1,10 @@
 -- `leaf_counts::read_whole` meets its contract. Assumes nothing.
-use mathlib.Core.Path.{◌≡◌, sym, ap, ◌∙◌}
-use mathlib.Core.Bool.{true}
+use mathlib.Core.Path.{◌≡◌}
 use mathlib.Core.List.{List}
-use Prim.Native.Nat.{ℕ, ◌+◌, ◌-◌, ◌*◌, ◌^◌, ◌≤◌, ◌<◌, zero-le}
-use native.Mathlib.Omega.{arith}
-use lib.ListN.{length, drop, get_or}
-use Rattle.leaf_digits.specs.declared.Class.TheVariants.{Digit}
-use Rattle.leaf_counts.specs.declared.Count.TheVariants.{Uncounted}
-use Rattle.leaf_digits.specs.Bytes.{is}
+use Prim.Native.Nat.{ℕ, ◌-◌, ◌^◌, ◌≤◌, ◌<◌}
+use lib.ListN.{length, drop}
 use Rattle.leaf_counts.specs.Counts.{whole}
-use Rattle.leaf_digits.proofs.Classes.{digit-range}
-use Rattle.leaf_counts.proofs.Counts.{from, from_more, from-other, from-over, from_end, whole-nil, whole-start}
+use Rattle.leaf_counts.proofs.Counts.{from}
 use Rattle.leaf_counts.proofs.read_whole.Given as goal
 
 abbrev pub Known : List ℕ → ℕ → ℕ → Type 0

@@ -1,5 +1,5 @@
 -- `leaf_digits::class_of` meets its contract. Assumes nothing.
-use mathlib.Core.Path.{sym, ap}
+use mathlib.Core.Path.{◌≡◌, sym, ap}
 use mathlib.Core.Logic.{⊎_elim}
 use native.Mathlib.Omega.{arith}
 use Rattle.leaf_digits.specs.Bytes.{class_of}
@@ -23,26 +23,19 @@ unfolding class_of
 returns-in-48-to-57 c = digit c.args.b (omega arith) (omega arith)
 
 pub returns-in_default : goal.returns-in_default
-unfolding class_of
-returns-in_default c =
-    let r = c.in_default-1.rest in
-    other-low _ r.0.0.0.1 r.0.0.1 r.0.1 r.1 (omega arith)
+returns-in_default c = other-low c.args.b (λ e. omega arith) (λ e. omega arith) (λ e. omega arith) (λ e. omega arith) (omega arith)
 
 pub returns-in_default-2 : goal.returns-in_default-2
-unfolding class_of
-returns-in_default-2 c =
-    let r = c.in_default-1.rest in
-    other-mid _ r.0.0.0.1 r.0.0.1 r.0.1 r.1 (omega arith) (omega arith)
+returns-in_default-2 c = other-mid c.args.b (λ e. omega arith) (λ e. omega arith) (λ e. omega arith) (λ e. omega arith) (omega arith) (omega arith)
 
 pub returns-in_default-3 : goal.returns-in_default-3
-unfolding class_of
-returns-in_default-3 c =
-    let r = c.in_default-1.rest in
-    other-high _ r.0.0.0.1 r.0.0.1 r.0.1 r.1 (omega arith)
+returns-in_default-3 c = other-high c.args.b (λ e. omega arith) (λ e. omega arith) (λ e. omega arith) (λ e. omega arith) (omega arith)
 
 pub returns-in-9-to-13 : goal.returns-in-9-to-13
 unfolding class_of
-returns-in-9-to-13 c = sym (ap class_of c.in-9-to-13.keys1)
+returns-in-9-to-13 c =
+    let e : c.args.b ≡ 32 = omega arith in
+    sym (ap class_of e)
 
 pub returns-in-9-to-13-2 : goal.returns-in-9-to-13-2
 unfolding class_of

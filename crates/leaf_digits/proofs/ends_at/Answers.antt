@@ -1,6 +1,5 @@
 -- `leaf_digits::ends_at` meets its contract. Assumes nothing.
 use mathlib.Core.Path.{sym, ◌∙◌}
-use mathlib.Core.List.{[], ◌∷◌}
 use Rattle.leaf_digits.specs.declared.Class.TheVariants.{Space}
 use Rattle.leaf_digits.proofs.Classes.{is-class, not-class, above-space}
 use Rattle.leaf_digits.proofs.Ends.{ended_at, ended-off}
@@ -19,7 +18,7 @@ returns-in-Space c =
 pub returns-in_default : goal.returns-in_default
 returns-in_default c =
     let a = c.args in
-    sym (not-class Space _ _ (1 ∷ 2 ∷ 3 ∷ 4 ∷ 5 ∷ []) c.class_of.ensures c.in_default.keys2 tt) ∙ ended_at a.s.now a.i c.if-i-s.true
+    sym (not-class Space _ c.class_of.ensures c.in_default.not-Space) ∙ ended_at a.s.now a.i c.if-i-s.true
 
 pub returns : goal.returns
 returns c = let a = c.args in ended-off a.s.now a.i c.if-i-s.false

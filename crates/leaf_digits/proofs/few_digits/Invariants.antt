@@ -1,14 +1,7 @@
 -- `leaf_digits::few_digits` meets its contract. Assumes nothing.
-use mathlib.Core.Path.{◌≡◌, refl, sym, ap, ◌∙◌}
-use mathlib.Core.Bool.{true}
-use Prim.Native.Nat.{◌+◌, ◌-◌, ◌*◌, ◌≤◌}
-use native.Mathlib.Omega.{arith}
-use lib.ListN.{length, get_or}
-use Rattle.leaf_digits.specs.declared.Class.TheVariants.{Digit}
-use Rattle.leaf_digits.specs.Bytes.{is}
+use Prim.Native.Nat.{◌-◌, ◌≤◌}
+use lib.ListN.{length}
 use Rattle.leaf_digits.specs.Runs.{Room, Scanned}
-use Rattle.leaf_digits.proofs.Classes.{digit-range}
-use Rattle.leaf_digits.proofs.Runs.{scan-none, scan-more, room-more, room_fits}
 use Rattle.leaf_digits.proofs.few_digits.Given as goal
 
 abbrev pub invariant-loop-i : goal.invariant-loop-i

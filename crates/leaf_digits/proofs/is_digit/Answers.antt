@@ -1,6 +1,5 @@
 -- `leaf_digits::is_digit` meets its contract. Assumes nothing.
 use mathlib.Core.Path.{sym}
-use mathlib.Core.List.{[], ◌∷◌}
 use native.Mathlib.Omega.{arith}
 use Rattle.leaf_digits.specs.declared.Class.TheVariants.{Digit}
 use Rattle.leaf_digits.proofs.Classes.{is-class, not-class, no_digit}
@@ -16,4 +15,4 @@ pub returns-in-Digit : goal.returns-in-Digit
 returns-in-Digit c = sym (is-class Digit _ c.class_of.ensures c.in-Digit.is)
 
 pub returns-in_default : goal.returns-in_default
-returns-in_default c = sym (not-class Digit _ _ (0 ∷ 2 ∷ 3 ∷ 4 ∷ 5 ∷ []) c.class_of.ensures c.in_default.keys2 tt)
+returns-in_default c = sym (not-class Digit _ c.class_of.ensures c.in_default.not-Digit)

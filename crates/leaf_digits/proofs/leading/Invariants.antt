@@ -1,16 +1,9 @@
 -- `leaf_digits::leading` meets its contract. Assumes nothing.
-use mathlib.Core.Path.{◌≡◌, refl, sym, ap, ◌∙◌}
-use mathlib.Core.Bool.{true}
-use mathlib.Core.List.{List, []}
-use Prim.Native.Nat.{ℕ, ◌≤◌, ◌<◌, ◌+◌, ◌-◌, ◌*◌, min, zero-le}
-use native.Mathlib.Nat.{add-zero, zero-add}
-use native.Mathlib.Omega.{arith}
-use lib.ListN.{length, drop, get_or}
-use Rattle.leaf_digits.specs.Bytes.{is}
+use mathlib.Core.Path.{◌≡◌}
+use mathlib.Core.List.{List}
+use Prim.Native.Nat.{ℕ, ◌≤◌, ◌+◌, ◌-◌, min}
+use lib.ListN.{length, drop}
 use Rattle.leaf_digits.specs.Digits.{digits, value}
-use Rattle.leaf_digits.specs.declared.Class.TheVariants.{Digit}
-use Rattle.leaf_digits.proofs.Classes.{digit-range}
-use Rattle.leaf_digits.proofs.Digits.{digits_step, digits-stop, digits-end, value-nil, value-cons, capped}
 use Rattle.leaf_digits.specs.Cap.{cap}
 use Rattle.leaf_digits.proofs.leading.Given as goal
 

@@ -1,7 +1,6 @@
 -- `leaf_words::find_either` meets its contract. Assumes nothing.
-use Rattle.std.proofs.Common.{◌≡◌, ◌+◌, ◌-◌, ◌≤◌, length, drop, refl, ◌∙◌, arith, rules}
+use Rattle.std.proofs.Common.{◌+◌, refl, ◌∙◌, arith}
 use lib.Count.{trailing_le}
-use Rattle.leaf_words.specs.Scan.{clear_len}
 use Rattle.leaf_words.proofs.ScanLaws.{length_part, clear-end}
 use Rattle.leaf_words.proofs.MarkLaws.{mark-found, mark-past}
 use Rattle.leaf_words.proofs.find_either.Goals as goal

@@ -1,6 +1,5 @@
 -- `leaf_words::find_near` meets its contract. Assumes nothing.
-use Rattle.std.proofs.Common.{◌≡◌, ◌+◌, ◌-◌, length, drop, refl, add-one, arith}
-use Rattle.leaf_words.specs.Scan.{clear_len}
+use Rattle.std.proofs.Common.{refl, add-one, arith}
 use Rattle.leaf_words.proofs.ScanLaws.{clear-on, clear_first, clear_second, clear-end}
 use Rattle.leaf_words.proofs.find_near.Goals as goal
 

@@ -1,5 +1,5 @@
 -- `leaf_words::hits` meets its contract. Assumes nothing.
-use Rattle.std.proofs.Common.{arith, rules}
+use Rattle.std.proofs.Common.{arith}
 use lib.Bits.{xor_lt}
 use Rattle.leaf_words.proofs.HitLaws.{hit-one, hit-either}
 use Rattle.leaf_words.proofs.hits.Goals as goal
@@ -7,12 +7,12 @@ use Rattle.leaf_words.proofs.hits.Goals as goal
 pub returns-then-a-b : goal.returns-then-a-b
 returns-then-a-b c =
     let a = c.args in
-    hit-one a.a a.b a.block.now (omega arith) (omega arith) c.requires (λ i. (c.shared_slice_known-1.given i).fits) _ _ _
-    c.word_of-w.ensures c.eight.ensures (xor_lt 64 _ _ c.word_of-w.type_inv c.eight.type_inv) c.wrapping_sub_u64.ensures c.if-a-b.true
+    hit-one a.a a.b a.block.now (omega arith) (omega arith) c.requires (λ i. (c.type_inv.block i).fits) _ _ _
+    c.word_of-w.ensures c.eight.ensures (xor_lt 64 _ _ c.word_of-w.type_inv c.eight.type_inv) c.wrapping_sub_u64.ensures.value c.if-a-b.true
 
 pub returns : goal.returns
 returns c =
     let a = c.args in
-    hit-either a.a a.b a.block.now (omega arith) (omega arith) c.requires (λ i. (c.shared_slice_known-1.given i).fits) _ _ _
-    c.word_of-w.ensures c.eight.ensures (xor_lt 64 _ _ c.word_of-w.type_inv c.eight.type_inv) c.wrapping_sub_u64.ensures
-    _ _ c.eight-2.ensures (xor_lt 64 _ _ c.word_of-w.type_inv c.eight-2.type_inv) c.wrapping_sub_u64-2.ensures
+    hit-either a.a a.b a.block.now (omega arith) (omega arith) c.requires (λ i. (c.type_inv.block i).fits) _ _ _
+    c.word_of-w.ensures c.eight.ensures (xor_lt 64 _ _ c.word_of-w.type_inv c.eight.type_inv) c.wrapping_sub_u64.ensures.value
+    _ _ c.eight-2.ensures (xor_lt 64 _ _ c.word_of-w.type_inv c.eight-2.type_inv) c.wrapping_sub_u64-2.ensures.value
