@@ -1,6 +1,7 @@
 // The numbers of document 01's words and enums, both ways: what stands in a record for each, and what a word of a record stands for; the numbers of the refusals and of the
 // classes of lines.
 #![tactic(auto)]
+
 ghost use Rattle.std.specs.Prelude.{◌≡◌};
 ghost use Rattle.scope.specs.Answers.{reason_no};
 ghost use Rattle.scope.specs.Tables.{pipe_status_no, status_no, type_no, target_no, comparison_no, operator_no, value_no, value_number};

@@ -1,5 +1,6 @@
 // The key of a name: its first eight letters as one number, by which rows are told apart at once.
 #![tactic(auto)]
+
 ghost use Rattle.std.specs.Prelude.{◌≡◌, ◌+◌, ◌≤◌, ◌<◌, length, take};
 ghost use Rattle.leaf_fields.specs.Fields.{part};
 ghost use Rattle.scope.specs.Tables.{packed, key_of};

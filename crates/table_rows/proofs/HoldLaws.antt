@@ -5,7 +5,7 @@ use native.Mathlib.Nat.{mul-one}
 use mathlib.Core.Bool.{true}
 use mathlib.Core.Path.{◌≡◌, refl, sym, ap, ◌∙◌}
 use mathlib.Core.List.{List, [], ◌∷◌, ◌++◌, map}
-use mathlib.Core.Option.{Option, none, some}
+use mathlib.Core.Option.{Option, none}
 use lib.ListN.{length, set, get_or, replicate, length-append, length-map, length-set}
 use lib.Ieee.{Float}
 use Rattle.leaf_fields.specs.Fields.{Name, name_in, Fits, part}

@@ -4,7 +4,7 @@ use native.Mathlib.Nat.{sub-zero, zero-sub, suc-sub-suc, suc-mul, zero-mul, mul-
 use native.Mathlib.Omega.{arith}
 use mathlib.Core.Path.{◌≡◌, refl, sym, ap, ◌∙◌}
 use mathlib.Core.List.{List, [], ◌∷◌, ◌++◌, append_assoc, append-nil}
-use lib.ListN.{length, take, drop, set, get_or, replicate, length-append, length-replicate, get_or-append}
+use lib.ListN.{length, drop, set, get_or, replicate, length-append, length-replicate, get_or-append}
 use lib.Seq.{take-append_seam, drop-append-add, get_or-append-add}
 use Rattle.scope.specs.Tables.{flat, region}
 use Rattle.table_rows.specs.Table.{splice}

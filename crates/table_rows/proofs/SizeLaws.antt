@@ -5,7 +5,7 @@ use mathlib.Core.Path.{◌≡◌, refl}
 use mathlib.Core.List.{List, [], ◌∷◌, map}
 use lib.ListN.{length}
 use Rattle.scope.specs.Records.{Network, zero_f}
-use Rattle.scope.specs.Tables.{region, id_words, count_words, node_words, node_numbers, link_words, link_numbers, point_words, point_numbers, multiplier_words}
+use Rattle.scope.specs.Tables.{id_words, count_words, node_words, node_numbers, link_words, link_numbers, point_words, point_numbers, multiplier_words}
 use Rattle.scope.specs.Tables.{multiplier_numbers, demand_words, demand_numbers, rule_words, clause_words, clause_numbers, id_slot, node_slot, link_slot, demand_slot}
 use Rattle.scope.specs.Tables.{word_blocks, number_blocks}
 use Rattle.scope.specs.Layout.{points_width, multipliers_width, multiplier_numbers_width, demand_numbers_width, clause_numbers_width, nodes_long, links_long, curves_long}

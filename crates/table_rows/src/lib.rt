@@ -1,5 +1,6 @@
 // The two tables that the caller lends: their layout, and what is stored of a record.
 #![tactic(auto)]
+
 ghost use Rattle.std.specs.Prelude.{◌≡◌, ◌+◌, ◌*◌, ◌≤◌, ◌<◌, length, replicate};
 ghost use Rattle.scope.specs.Sections.{room_curves};
 ghost use Rattle.leaf_fields.specs.Fields.{name_in};

@@ -1,8 +1,7 @@
 -- `table_keys::name_key` meets its contract. Assumes nothing.
-use Prim.Native.Nat.{◌-◌}
 use native.Mathlib.Omega.{arith}
-use lib.ListN.{length, get_or}
-use Rattle.table_keys.proofs.LoopLaws.{Packing, pack-start, pack-fits, pack-next, pack-end}
+use lib.ListN.{get_or}
+use Rattle.table_keys.proofs.LoopLaws.{pack-start, pack-fits, pack-next, pack-end}
 use Rattle.table_keys.proofs.name_key.Goals as goal
 
 pub loop-i-init : goal.loop-i-init

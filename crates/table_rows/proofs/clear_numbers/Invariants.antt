@@ -1,9 +1,8 @@
 -- `table_rows::clear_numbers` meets its contract. Assumes nothing.
 use Prim.Native.Nat.{◌-◌}
-use native.Mathlib.Omega.{arith}
 use lib.ListN.{length}
 use Rattle.scope.specs.Records.{zero_f}
-use Rattle.table_rows.proofs.ClearLaws.{Clearing, clear-start, clear_next, clear-end, zero_number}
+use Rattle.table_rows.proofs.ClearLaws.{Clearing}
 use Rattle.table_rows.proofs.clear_numbers.Given as goal
 
 abbrev pub invariant-loop-i : goal.invariant-loop-i

@@ -1,8 +1,6 @@
 -- `table_rows::clear_words` meets its contract. Assumes nothing.
-use Prim.Native.Nat.{◌-◌}
 use native.Mathlib.Omega.{arith}
-use lib.ListN.{length}
-use Rattle.table_rows.proofs.ClearLaws.{Clearing, clear-start, clear_next, clear-end}
+use Rattle.table_rows.proofs.ClearLaws.{clear-start, clear_next, clear-end}
 use Rattle.table_rows.proofs.clear_words.Goals as goal
 
 pub loop-i-init : goal.loop-i-init

@@ -1,8 +1,7 @@
 -- `table_rows::clear_words` meets its contract. Assumes nothing.
 use Prim.Native.Nat.{◌-◌}
-use native.Mathlib.Omega.{arith}
 use lib.ListN.{length}
-use Rattle.table_rows.proofs.ClearLaws.{Clearing, clear-start, clear_next, clear-end}
+use Rattle.table_rows.proofs.ClearLaws.{Clearing}
 use Rattle.table_rows.proofs.clear_words.Given as goal
 
 abbrev pub invariant-loop-i : goal.invariant-loop-i

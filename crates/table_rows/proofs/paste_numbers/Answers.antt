@@ -1,11 +1,10 @@
 -- `table_rows::paste_numbers` meets its contract. Assumes nothing.
-use Prim.Native.Nat.{◌≤◌, ◌-◌}
 use native.Mathlib.Omega.{arith}
 use native.Mathlib.Numerals.{add-one}
 use mathlib.Core.Path.{◌≡◌, refl, ◌∙◌}
 use lib.ListN.{length, length-set}
 use lib.Ieee.{nan}
-use lib.Seq.{paste, paste-zero, paste-suc, take-length}
+use lib.Seq.{paste-zero, paste-suc, take-length}
 use Rattle.table_rows.proofs.paste_numbers.Goals as goal
 
 pub loop-i-init : goal.loop-i-init
