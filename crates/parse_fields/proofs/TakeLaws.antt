@@ -6,15 +6,12 @@ use mathlib.Core.List.{List, [], ◌∷◌}
 use lib.Ieee.{Float}
 use lib.ListN.{length, take, drop}
 use lib.Seq.{take_all}
-use types.Run.{OneOf, miss}
-use denote.Enum.Declared.{tag_of}
 use Rattle.leaf_decimals.specs.declared.Number as N
 use Rattle.leaf_decimals.specs.declared.Number.TheVariants.{Value, Malformed, Beyond}
 use Rattle.leaf_decimals.specs.declared.Plain.{Plain}
 use Rattle.leaf_decimals.specs.declared.Plain.TheVariants.{Is}
 use Rattle.leaf_decimals.specs.Numbers.{number_of}
 use Rattle.leaf_decimals.specs.Begun.{Begins}
-use Rattle.leaf_decimals.specs.contracts.Number.{the_type}
 use Rattle.leaf_digits.specs.Ends.{word_len}
 use Rattle.leaf_digits.proofs.Lists.{tail_of}
 use Rattle.leaf_fields.specs.Fields.{start_at}
@@ -45,9 +42,9 @@ took-as l Malformed next = refl
 took-as l Beyond next = refl
 
 -- neither a value nor malformed
-pub beyond : (d : Float) (n : N.Number) (fs : List Name) → OneOf (1 ∷ 2 ∷ []) (tag_of the_type n) → OneOf (0 ∷ 2 ∷ []) (tag_of the_type n) → refused reason.BeyondReach ≡ as_swallowed d n fs
-beyond d (Value x) fs h k = absurd (miss (1 ∷ 2 ∷ []) 0 tt h)
-beyond d Malformed fs h k = absurd (miss (0 ∷ 2 ∷ []) 1 tt k)
+pub beyond : (d : Float) (n : N.Number) (fs : List Name) → ((x : Float) → n ≡ Value x → ⊥) → (n ≡ Malformed → ⊥) → refused reason.BeyondReach ≡ as_swallowed d n fs
+beyond d (Value x) fs h k = absurd (h x refl)
+beyond d Malformed fs h k = absurd (k refl)
 beyond d Beyond fs h k = refl
 
 -- ---- the number of the next field

@@ -1,6 +1,7 @@
 // Takes the next field of a line as a number or a flag. A line is the caller's text up to the line's end, with the place where its next field
 // is looked for: so every place is a place of the text. Names are taken by leaf_fields::next_field.
 #![tactic(auto)]
+
 ghost use Rattle.std.specs.Prelude.{◌≡◌};
 ghost use Rattle.leaf_decimals.specs.Numbers.{number_of};
 ghost use Rattle.leaf_fields.specs.Fields.{fields_at};

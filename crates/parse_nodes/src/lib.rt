@@ -1,5 +1,6 @@
 // Reads a line of JUNCTIONS or RESERVOIRS: the fields in order, and what they say. Nothing is looked up or stored here. What a line of TANKS says, which parse_tanks reads, is a NodeRead too.
 #![tactic(auto)]
+
 ghost use Rattle.leaf_fields.specs.Fields.{fields_at};
 ghost use Rattle.scope.specs.Nodes.{junction_of, reservoir_of};
 ghost use Rattle.parse_nodes.specs.Lines.{JunctionAs, NodeAs};

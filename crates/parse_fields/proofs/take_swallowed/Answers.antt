@@ -14,8 +14,7 @@ pub returns-in_default-n-2 : goal.returns-in_default-n-2
 returns-in_default-n-2 c =
     let swallowed : let a = c.args in as_swallowed a.other c.in-Is.n (fields_at a.l.now c.in-Is.end) ≡ swallowed_from a.other (fields_at a.l.now a.at) = let a = c.args in
     swallowed-next a.l.now a.at _ c.next_number-f.ensures _ _ c.in-Is.is a.other in
-    let n = c.in-Is.n in
-    beyond _ n _ c.in_default-n.keys2 c.in_default-n-2.keys2 ∙ swallowed
+    beyond _ c.in-Is.n _ c.in_default-n.not-Value c.in_default-n-2.not-Malformed ∙ swallowed
 
 pub returns-in_default-n : goal.returns-in_default-n
 returns-in_default-n c =

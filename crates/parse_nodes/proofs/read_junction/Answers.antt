@@ -32,7 +32,7 @@ returns-in_default-amount c =
     rw ((s1).0, s2, told-number a.l.now c.take_swallowed-amount.ensures c.in_default-amount.is) (told-why c.reason_of-in_default-amount.ensures c.in_default-amount.is)
 
 pub returns-in-Flag : goal.returns-in-Flag
-unfolding junction_of Ieee.of_bits Ieee.of_bits
+unfolding junction_of Ieee.of_bits
 returns-in-Flag c =
     let s1 : let a = c.args in let l = a.l.now in (fields_at l a.at ≡ name_in l c.in-Taken.id ∷ fields_at l c.in-Taken.id.end) × Fits l c.in-Taken.id = c.next_field-f.ensures.taken _ c.in-Taken.is in
     let s2 : let a = c.args in let l = a.l.now in number_or zero_text (fields_at l c.in-Taken.id.end) ≡ took c.in-Number.elevation (fields_at l c.in-Number.at2) = let a = c.args in
@@ -53,7 +53,7 @@ returns-in-Flag c =
     )
 
 pub returns-in-NoFlag : goal.returns-in-NoFlag
-unfolding junction_of Ieee.of_bits Ieee.of_bits
+unfolding junction_of Ieee.of_bits
 returns-in-NoFlag c =
     let s1 : let a = c.args in let l = a.l.now in (fields_at l a.at ≡ name_in l c.in-Taken.id ∷ fields_at l c.in-Taken.id.end) × Fits l c.in-Taken.id = c.next_field-f.ensures.taken _ c.in-Taken.is in
     let s2 : let a = c.args in let l = a.l.now in number_or zero_text (fields_at l c.in-Taken.id.end) ≡ took c.in-Number.elevation (fields_at l c.in-Number.at2) = let a = c.args in
