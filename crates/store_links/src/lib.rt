@@ -1,5 +1,6 @@
 // Stores what a line of PIPES, PUMPS or VALVES says (parse_pipes, parse_pumps and parse_valves read it): the two nodes are looked up and the link is appended.
 #![tactic(auto)]
+
 ghost use Rattle.std.specs.Prelude.{◌≡◌, List, ℕ, ◌+◌, ◌*◌, ◌≤◌, ◌<◌, length, take};
 ghost use Rattle.leaf_fields.specs.Fields.{Name, fields_at, name_in, Fits};
 ghost use Rattle.scope.specs.Records.{Network};

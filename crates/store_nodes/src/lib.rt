@@ -1,5 +1,6 @@
 // Stores what a line of JUNCTIONS, RESERVOIRS or TANKS says, as parse_nodes and parse_tanks read it: the name is looked up and the record stored.
 #![tactic(auto)]
+
 ghost use Rattle.std.specs.Prelude.{◌≡◌, ◌+◌, ◌*◌, ◌%◌, ◌≤◌, ◌<◌, length, take};
 ghost use Rattle.leaf_fields.specs.Fields.{Name, fields_at, name_in, Fits, opt_in, MayFit};
 ghost use Rattle.scope.specs.Records.{Network, Node, NodeKind};

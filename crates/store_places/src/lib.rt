@@ -1,5 +1,6 @@
 // Stores what a line of EMITTERS says, as parse_pairs reads it, or of COORDINATES, as parse_pairs::read_pair does: the node is looked up and changed in its place.
 #![tactic(auto)]
+
 ghost use Rattle.std.specs.Prelude.{◌≤◌, length, take};
 ghost use Rattle.leaf_fields.specs.Fields.{fields_at, name_in};
 ghost use Rattle.scope.specs.Records.{Network};

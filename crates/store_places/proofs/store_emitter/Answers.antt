@@ -14,12 +14,11 @@ returns-in_default c =
     λ m h. no-emitter h c.args.e.id c.args.e.coefficient (sym (c.node_named-found.ensures m h.words (count-nodes h)) ∙ c.in_default.is)
 
 pub is_junction-requires : goal.is_junction-requires
-is_junction-requires c =
-    (
-      node-room c.requires.holds c.args.e.id
-          (sym (c.node_named-found.ensures c.requires.m c.requires.holds.words (count-nodes c.requires.holds)) ∙ c.in-At.is),
-      sound-words c.requires,
-    )
+is_junction-requires c = (
+  node-room c.requires.holds c.args.e.id
+      (sym (c.node_named-found.ensures c.requires.m c.requires.holds.words (count-nodes c.requires.holds)) ∙ c.in-At.is),
+  sound-words c.requires,
+)
 
 pub overflow_mul-i : goal.overflow_mul-i
 overflow_mul-i c =
