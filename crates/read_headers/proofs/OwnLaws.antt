@@ -1,5 +1,5 @@
 -- What a line is; the lines of a group, one after another; and how they grow with the text that is read. Assumes nothing.
-use Prim.Native.Nat.{ℕ, zero, ◌+◌, ◌-◌, ◌≤◌, ◌<◌}
+use Prim.Native.Nat.{ℕ, ◌+◌, ◌-◌, ◌≤◌, ◌<◌}
 use native.Mathlib.Omega.{arith}
 use native.Mathlib.Nat.{add-zero}
 use borrow.Author.Tests.{eqb-false, ne_eqb, ltb-true, ltb-false}
@@ -10,7 +10,7 @@ use lib.ListN.{length, take, drop, get_or, length-append, length-take, length-dr
 use lib.Seq.{drop-cons, take_all}
 use lib.Dec.{eqb, ltb}
 use Rattle.leaf_digits.specs.Bytes.{class_of}
-use Rattle.leaf_fields.specs.Fields.{Name, part, fields_of, fields_at, start_at}
+use Rattle.leaf_fields.specs.Fields.{Name, fields_of, fields_at, start_at}
 use Rattle.leaf_scans.specs.Lines.{chunks, joined, line_len, start_trimmed, trimmed, kind_by}
 use Rattle.leaf_letters.specs.Words.{same, begins}
 use Rattle.leaf_scans.specs.Scan.{span_len}

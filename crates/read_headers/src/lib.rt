@@ -1,5 +1,6 @@
 // The section that a header opens, what a line is, and the lines of a group.
 #![tactic(auto)]
+
 ghost use Rattle.std.specs.Prelude.{◌≡◌, false, cond, take, drop};
 ghost use Rattle.leaf_scans.specs.Lines as kind;
 ghost use Rattle.leaf_scans.specs.Lines.{start_trimmed};

@@ -1,6 +1,7 @@
 // Reads the conditions and the actions of a rule. A line is the caller's text up to the line's end, with the place where its next field is looked for: so every place
 // is a place of the text.
 #![tactic(auto)]
+
 ghost use Rattle.std.specs.Prelude.{◌≡◌};
 ghost use Rattle.leaf_fields.specs.Fields.{fields_at};
 ghost use Rattle.scope.specs.Records.{LinkKind};

@@ -1,6 +1,7 @@
 // Reads one line of a rule group: what it says, by its first word and by whether a THEN and an ELSE were read before it. An action's link is looked up; nothing is
 // stored here.
 #![tactic(auto)]
+
 ghost use Rattle.std.specs.Prelude.{◌≡◌, List, ℕ, length};
 ghost use Rattle.leaf_fields.specs.Fields.{fields_at, name_in, part, Fits};
 ghost use Rattle.scope.specs.Records.{Network, link_ids, lookup};
@@ -25,8 +26,8 @@ pub enum ActionRead {
 }
 
 fn action_value(read: ValueRead, link: usize, name: Span, otherwise: bool) -> ActionRead
-    ensures by_index { (l : List ℕ) → action_read l result ≡ on_read (value_read read) (λ v. good (action_with otherwise link (name_in l name) v)) }
-    ensures by_index_2 { (l : List ℕ) → Fits l name → ActionFits l result }
+    ensures result_value { (l : List ℕ) → action_read l result ≡ on_read (value_read read) (λ v. good (action_with otherwise link (name_in l name) v)) }
+    ensures action_fits { (l : List ℕ) → Fits l name → ActionFits l result }
 {
     match read {
         ValueRead::Read(value) => ActionRead::Read(Action {
@@ -118,8 +119,8 @@ pub enum LineRead {
 }
 
 fn as_condition(read: ConditionRead) -> LineRead
-    ensures by_index { (l : List ℕ) → said_read l result ≡ on_read (condition_read l read) (λ c. good (said_condition c)) }
-    ensures by_index_2 { (l : List ℕ) → ConditionFits l read → LineFits l result }
+    ensures result_value { (l : List ℕ) → said_read l result ≡ on_read (condition_read l read) (λ c. good (said_condition c)) }
+    ensures line_fits { (l : List ℕ) → ConditionFits l read → LineFits l result }
 {
     match read {
         ConditionRead::Read(c) => LineRead::Condition(c),
@@ -128,8 +129,8 @@ fn as_condition(read: ConditionRead) -> LineRead
 }
 
 fn as_action(read: ActionRead, acting: bool, otherwise: bool) -> LineRead
-    ensures by_index { (l : List ℕ) → said_read l result ≡ on_read (action_read l read) (λ a. good (said_action acting otherwise a)) }
-    ensures by_index_2 { (l : List ℕ) → ActionFits l read → LineFits l result }
+    ensures result_value { (l : List ℕ) → said_read l result ≡ on_read (action_read l read) (λ a. good (said_action acting otherwise a)) }
+    ensures line_fits { (l : List ℕ) → ActionFits l read → LineFits l result }
 {
     match read {
         ActionRead::Read(action) => LineRead::Action(Acted {

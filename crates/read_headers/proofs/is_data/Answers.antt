@@ -1,4 +1,5 @@
 -- `read_headers::is_data` meets its contract. Assumes nothing.
+use Rattle.std.proofs.Common.{arith}
 use Rattle.read_headers.proofs.OwnLaws.{data-nothing, data-blank, data-header, data-other}
 use Rattle.read_headers.proofs.is_data.Goals as goal
 
@@ -20,5 +21,4 @@ returns-in-91 c =
 pub returns-in_default : goal.returns-in_default
 returns-in_default c =
     let a = c.args in
-    let r = c.in_default.rest in
-    data-other a.l.now a.at _ c.field_start-start.ensures c.if-l-start.false r.0.1 r.1
+    data-other a.l.now a.at _ c.field_start-start.ensures c.if-l-start.false (omega arith) (omega arith)

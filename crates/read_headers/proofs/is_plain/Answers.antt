@@ -1,4 +1,5 @@
 -- `read_headers::is_plain` meets its contract. Assumes nothing.
+use Rattle.std.proofs.Common.{arith}
 use Rattle.read_headers.proofs.OwnLaws.{plain-nothing, plain-blank, plain-header, plain-rule, plain_other}
 use Rattle.read_headers.proofs.is_plain.Goals as goal
 
@@ -25,5 +26,4 @@ returns-in-82 c =
 pub returns-in_default : goal.returns-in_default
 returns-in_default c =
     let a = c.args in
-    let r = c.in_default.rest in
-    plain_other a.l.now a.at _ c.field_start-start.ensures c.if-l-start.false r.0.0.1 r.0.1 r.1
+    plain_other a.l.now a.at _ c.field_start-start.ensures c.if-l-start.false (omega arith) (omega arith) (omega arith)

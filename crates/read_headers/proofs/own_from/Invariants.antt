@@ -1,13 +1,10 @@
 -- `read_headers::own_from` meets its contract. Assumes nothing.
-use mathlib.Core.Path.{◌≡◌, refl, sym, ◌∙◌}
+use mathlib.Core.Path.{◌≡◌}
 use Prim.Native.Nat.{◌≤◌, ◌-◌}
-use native.Mathlib.Omega.{arith}
 use lib.ListN.{length, drop}
 use Rattle.leaf_scans.specs.Lines.{chunks}
-use Rattle.leaf_scans.proofs.LineLaws.{end-le, end_more}
 use Rattle.scope.specs.declared.Section.TheVariants.{Rules}
 use Rattle.read_headers.specs.Own.{own_fields}
-use Rattle.read_headers.proofs.OwnLaws.{told-own, told-other, own-end, no_own}
 use Rattle.read_headers.proofs.own_from.Given as goal
 
 abbrev pub invariant-loop-p : goal.invariant-loop-p

@@ -1,4 +1,5 @@
 -- `read_headers::sort_of` meets its contract. Assumes nothing.
+use Rattle.std.proofs.Common.{arith}
 use Rattle.read_headers.proofs.OwnLaws.{sort-nothing, sort-blank, sort-header, sort-rule, sort-other}
 use Rattle.read_headers.proofs.sort_of.Goals as goal
 
@@ -25,5 +26,4 @@ returns-in-82 c =
 pub returns-in_default : goal.returns-in_default
 returns-in_default c =
     let a = c.args in
-    let r = c.in_default.rest in
-    sort-other a.l.now a.at _ c.field_start-start.ensures c.if-l-start.false r.0.0.1 r.0.1 r.1
+    sort-other a.l.now a.at _ c.field_start-start.ensures c.if-l-start.false (omega arith) (omega arith) (omega arith)

@@ -8,38 +8,45 @@ use Rattle.rule_clauses.proofs.condition_on.Goals as goal
 
 pub returns-in_default : goal.returns-in_default
 unfolding condition_on
-returns-in_default c = (rw (c.next_field-f.ensures.nothing c.in_default.is), λ fit. tt)
+returns-in_default c =
+    record {
+      result_value = rw (c.next_field-f.ensures.nothing c.in_default.is);
+      condition_fits = λ fit. tt;
+    }
 
 pub returns-in_default-word : goal.returns-in_default-word
 unfolding condition_on
 returns-in_default-word c =
     let field : let a = c.args in let l = a.l.now in (fields_at l a.aim.next ≡ name_in l c.in-Taken.s ∷ fields_at l c.in-Taken.s.end) × Fits l c.in-Taken.s = c.next_field-f.ensures.taken _ c.in-Taken.is in
-    (rw ((field).0, ← c.letters_of.ensures, sym c.read_comparison-word.ensures ∙ ap comparison_read c.in_default-word.is), λ fit. tt)
+    record {
+      result_value = rw ((field).0, ← c.letters_of.ensures, sym c.read_comparison-word.ensures ∙ ap comparison_read c.in_default-word.is);
+      condition_fits = λ fit. tt;
+    }
 
 pub returns-in-Read : goal.returns-in-Read
 unfolding condition_on
 returns-in-Read c =
     let field : let a = c.args in let l = a.l.now in (fields_at l a.aim.next ≡ name_in l c.in-Taken.s ∷ fields_at l c.in-Taken.s.end) × Fits l c.in-Taken.s = c.next_field-f.ensures.taken _ c.in-Taken.is in
-    (
-      rw (
+    record {
+      result_value = rw (
         (field).0,
         ← c.letters_of.ensures,
         sym c.read_comparison-word.ensures ∙ ap comparison_read c.in-Known.is,
         sym c.read_value-read.ensures ∙ ap value_read c.in-Read.is,
-      ),
-      λ fit. fit,
-    )
+      );
+      condition_fits = λ fit. fit;
+    }
 
 pub returns-in-Refused : goal.returns-in-Refused
 unfolding condition_on
 returns-in-Refused c =
     let field : let a = c.args in let l = a.l.now in (fields_at l a.aim.next ≡ name_in l c.in-Taken.s ∷ fields_at l c.in-Taken.s.end) × Fits l c.in-Taken.s = c.next_field-f.ensures.taken _ c.in-Taken.is in
-    (
-      rw (
+    record {
+      result_value = rw (
         (field).0,
         ← c.letters_of.ensures,
         sym c.read_comparison-word.ensures ∙ ap comparison_read c.in-Known.is,
         sym c.read_value-read.ensures ∙ ap value_read c.in-Refused.is,
-      ),
-      λ fit. tt,
-    )
+      );
+      condition_fits = λ fit. tt;
+    }

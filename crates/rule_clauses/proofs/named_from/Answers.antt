@@ -7,29 +7,38 @@ use Rattle.rule_clauses.proofs.ClauseLaws.{named-is}
 use Rattle.rule_clauses.proofs.named_from.Goals as goal
 
 pub returns-in_default : goal.returns-in_default
-returns-in_default c = (rw (c.next_field-f.ensures.nothing c.in_default.is), tt)
+returns-in_default c =
+    record {
+      result_value = rw (c.next_field-f.ensures.nothing c.in_default.is);
+      target_fits = tt;
+    }
 
 pub returns-in_default-g : goal.returns-in_default-g
 returns-in_default-g c =
     let field : let a = c.args in let l = a.l.now in (fields_at l a.at ≡ name_in l c.in-Taken.id ∷ fields_at l c.in-Taken.id.end) × Fits l c.in-Taken.id = c.next_field-f.ensures.taken _ c.in-Taken.is in
-    (rw ((field).0, c.next_field-g.ensures.nothing c.in_default-g.is), tt)
+    record {
+      result_value = rw ((field).0, c.next_field-g.ensures.nothing c.in_default-g.is);
+      target_fits = tt;
+    }
 
 pub returns-in-Known : goal.returns-in-Known
 returns-in-Known c =
     let field : let a = c.args in let l = a.l.now in (fields_at l a.at ≡ name_in l c.in-Taken.id ∷ fields_at l c.in-Taken.id.end) × Fits l c.in-Taken.id = c.next_field-f.ensures.taken _ c.in-Taken.is in
     let field2 : let a = c.args in let l = a.l.now in (fields_at l c.in-Taken.id.end ≡ name_in l c.in-Taken-g.s ∷ fields_at l c.in-Taken-g.s.end) × Fits l c.in-Taken-g.s = c.next_field-g.ensures.taken _ c.in-Taken-g.is in
-    let a = c.args in (
-      sym (named-is a.kind a.l.now a.at _ _ _ (field).0 (field2).0
-          (sym (ap (attribute_of a.kind) c.letters_of.ensures) ∙ sym c.attribute-read.ensures ∙ ap attribute_read c.in-Known.is)),
-      (field).1,
-    )
+    let a = c.args in
+    record {
+      result_value = sym (named-is a.kind a.l.now a.at _ _ _ (field).0 (field2).0
+          (sym (ap (attribute_of a.kind) c.letters_of.ensures) ∙ sym c.attribute-read.ensures ∙ ap attribute_read c.in-Known.is));
+      target_fits = (field).1;
+    }
 
 pub returns-in-Unknown : goal.returns-in-Unknown
 returns-in-Unknown c =
     let field : let a = c.args in let l = a.l.now in (fields_at l a.at ≡ name_in l c.in-Taken.id ∷ fields_at l c.in-Taken.id.end) × Fits l c.in-Taken.id = c.next_field-f.ensures.taken _ c.in-Taken.is in
     let field2 : let a = c.args in let l = a.l.now in (fields_at l c.in-Taken.id.end ≡ name_in l c.in-Taken-g.s ∷ fields_at l c.in-Taken-g.s.end) × Fits l c.in-Taken-g.s = c.next_field-g.ensures.taken _ c.in-Taken-g.is in
-    let a = c.args in (
-      sym (named-is a.kind a.l.now a.at _ _ _ (field).0 (field2).0
-          (sym (ap (attribute_of a.kind) c.letters_of.ensures) ∙ sym c.attribute-read.ensures ∙ ap attribute_read c.in-Unknown.is)),
-      tt,
-    )
+    let a = c.args in
+    record {
+      result_value = sym (named-is a.kind a.l.now a.at _ _ _ (field).0 (field2).0
+          (sym (ap (attribute_of a.kind) c.letters_of.ensures) ∙ sym c.attribute-read.ensures ∙ ap attribute_read c.in-Unknown.is));
+      target_fits = tt;
+    }

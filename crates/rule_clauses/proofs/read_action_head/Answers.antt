@@ -5,15 +5,25 @@ use Rattle.leaf_fields.specs.Fields.{Fits, fields_at, name_in}
 use Rattle.rule_clauses.proofs.read_action_head.Goals as goal
 
 pub returns-in_default : goal.returns-in_default
-returns-in_default c = (rw (c.next_field-f.ensures.nothing c.in_default.is), tt)
+returns-in_default c =
+    record {
+      result_value = rw (c.next_field-f.ensures.nothing c.in_default.is);
+      head_fits = tt;
+    }
 
 pub returns-in_default-g : goal.returns-in_default-g
 returns-in_default-g c =
     let field : let a = c.args in let l = a.l.now in (fields_at l a.at ≡ name_in l c.in-Taken.kind ∷ fields_at l c.in-Taken.kind.end) × Fits l c.in-Taken.kind = c.next_field-f.ensures.taken _ c.in-Taken.is in
-    (rw ((field).0, c.next_field-g.ensures.nothing c.in_default-g.is), tt)
+    record {
+      result_value = rw ((field).0, c.next_field-g.ensures.nothing c.in_default-g.is);
+      head_fits = tt;
+    }
 
 pub returns : goal.returns
 returns c =
     let field : let a = c.args in let l = a.l.now in (fields_at l a.at ≡ name_in l c.in-Taken.kind ∷ fields_at l c.in-Taken.kind.end) × Fits l c.in-Taken.kind = c.next_field-f.ensures.taken _ c.in-Taken.is in
     let field2 : let a = c.args in let l = a.l.now in (fields_at l c.in-Taken.kind.end ≡ name_in l c.in-Taken-g.id ∷ fields_at l c.in-Taken-g.id.end) × Fits l c.in-Taken-g.id = c.next_field-g.ensures.taken _ c.in-Taken-g.is in
-    (rw ((field).0, (field2).0), ((field).1, (field2).1))
+    record {
+      result_value = rw ((field).0, (field2).0);
+      head_fits = ((field).1, (field2).1);
+    }

@@ -6,14 +6,24 @@ use Rattle.rule_clauses.specs.Clauses.{attribute_read}
 use Rattle.rule_clauses.proofs.system_from.Goals as goal
 
 pub returns-in_default : goal.returns-in_default
-returns-in_default c = (rw (c.next_field-f.ensures.nothing c.in_default.is), tt)
+returns-in_default c =
+    record {
+      result_value = rw (c.next_field-f.ensures.nothing c.in_default.is);
+      target_fits = tt;
+    }
 
 pub returns-in-Known : goal.returns-in-Known
 returns-in-Known c =
     let field : let a = c.args in let l = a.l.now in (fields_at l a.at ≡ name_in l c.in-Taken.s ∷ fields_at l c.in-Taken.s.end) × Fits l c.in-Taken.s = c.next_field-f.ensures.taken _ c.in-Taken.is in
-    (rw ((field).0, ← c.letters_of.ensures, sym c.system_target-read.ensures ∙ ap attribute_read c.in-Known.is), tt)
+    record {
+      result_value = rw ((field).0, ← c.letters_of.ensures, sym c.system_target-read.ensures ∙ ap attribute_read c.in-Known.is);
+      target_fits = tt;
+    }
 
 pub returns-in-Unknown : goal.returns-in-Unknown
 returns-in-Unknown c =
     let field : let a = c.args in let l = a.l.now in (fields_at l a.at ≡ name_in l c.in-Taken.s ∷ fields_at l c.in-Taken.s.end) × Fits l c.in-Taken.s = c.next_field-f.ensures.taken _ c.in-Taken.is in
-    (rw ((field).0, ← c.letters_of.ensures, sym c.system_target-read.ensures ∙ ap attribute_read c.in-Unknown.is), tt)
+    record {
+      result_value = rw ((field).0, ← c.letters_of.ensures, sym c.system_target-read.ensures ∙ ap attribute_read c.in-Unknown.is);
+      target_fits = tt;
+    }

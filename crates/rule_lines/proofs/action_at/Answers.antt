@@ -22,7 +22,10 @@ pub find_named-found-requires : goal.find_named-found-requires
 find_named-found-requires c = c.requires
 
 pub returns-in_default : goal.returns-in_default
-returns-in_default c = (λ m w e. rw (ap (lookup (link_ids m)) (sym c.letters_of.ensures) ∙ sym (c.find_named-found.ensures m w e) ∙ c.in_default.is), λ fit. tt)
+returns-in_default c = record {
+  result_value = λ m w e. rw (ap (lookup (link_ids m)) (sym c.letters_of.ensures) ∙ sym (c.find_named-found.ensures m w e) ∙ c.in_default.is);
+  action_fits = λ fit. tt;
+}
 
 pub is_pipe-pipe-requires : goal.is_pipe-pipe-requires
 is_pipe-pipe-requires c =
@@ -49,27 +52,27 @@ pub returns-in-Fits : goal.returns-in-Fits
 returns-in-Fits c =
     let looked : (m : Network) → Words c.args.text.now m c.args.words.now → c.args.links ≡ length m.links → lookup (link_ids m) (part c.args.head.id.at c.args.head.id.end c.args.l.now) ≡ At c.in-At.i = λ m w e. ap (lookup (link_ids m)) (sym c.letters_of.ensures) ∙ sym (c.find_named-found.ensures m w e) ∙ c.in-At.is in
     let below : (m : Network) → Words c.args.text.now m c.args.words.now → c.args.links ≡ length m.links → c.in-At.i < length m.links = λ m w e. omega (arith, found_below (link_ids m) _ (looked m w e), link-count m) in
-    (
-      λ m w e. c.action_value.ensures.0 c.args.l.now
+    record {
+      result_value = λ m w e. c.action_value.ensures.result_value c.args.l.now
           ∙ rw c.read_deed.ensures (sym (at-is c.args.otherwise m (head_in c.args.l.now c.args.head)
           (fields_at c.args.l.now c.args.head.id.end) _ c.in-At.i _ (looked m w e)
           (ap (λ (x : List ℕ). kind_fits x (get_or m.links c.in-At.i no_link).kind) (sym c.letters_of-2.ensures)
           ∙ sym (c.kind_fits-fits.ensures (get_or m.links c.in-At.i no_link).kind
           (c.is_pipe-pipe.ensures c.args.text.now m w (below m w e)) (c.is_pump-pump.ensures c.args.text.now m w (below m w e))
-          (c.is_valve-valve.ensures c.args.text.now m w (below m w e))) ∙ ap kind_read c.in-Fits.is))),
-      λ fit. c.action_value.ensures.1 c.args.l.now fit,
-    )
+          (c.is_valve-valve.ensures c.args.text.now m w (below m w e))) ∙ ap kind_read c.in-Fits.is)));
+      action_fits = λ fit. c.action_value.ensures.action_fits c.args.l.now fit;
+    }
 
 pub returns-in-Refused : goal.returns-in-Refused
 returns-in-Refused c =
     let looked : (m : Network) → Words c.args.text.now m c.args.words.now → c.args.links ≡ length m.links → lookup (link_ids m) (part c.args.head.id.at c.args.head.id.end c.args.l.now) ≡ At c.in-At.i = λ m w e. ap (lookup (link_ids m)) (sym c.letters_of.ensures) ∙ sym (c.find_named-found.ensures m w e) ∙ c.in-At.is in
     let below : (m : Network) → Words c.args.text.now m c.args.words.now → c.args.links ≡ length m.links → c.in-At.i < length m.links = λ m w e. omega (arith, found_below (link_ids m) _ (looked m w e), link-count m) in
-    (
-      λ m w e. sym (at-is c.args.otherwise m (head_in c.args.l.now c.args.head) (fields_at c.args.l.now c.args.head.id.end) _
+    record {
+      result_value = λ m w e. sym (at-is c.args.otherwise m (head_in c.args.l.now c.args.head) (fields_at c.args.l.now c.args.head.id.end) _
           c.in-At.i _ (looked m w e)
           (ap (λ (x : List ℕ). kind_fits x (get_or m.links c.in-At.i no_link).kind) (sym c.letters_of-2.ensures)
           ∙ sym (c.kind_fits-fits.ensures (get_or m.links c.in-At.i no_link).kind
           (c.is_pipe-pipe.ensures c.args.text.now m w (below m w e)) (c.is_pump-pump.ensures c.args.text.now m w (below m w e))
-          (c.is_valve-valve.ensures c.args.text.now m w (below m w e))) ∙ ap kind_read c.UNRESOLVED-fits2.given.1)),
-      λ fit. tt,
-    )
+          (c.is_valve-valve.ensures c.args.text.now m w (below m w e))) ∙ ap kind_read c.in-Refused.is));
+      action_fits = λ fit. tt;
+    }

@@ -3,7 +3,15 @@
 use Rattle.rule_lines.proofs.action_value.Goals as goal
 
 pub returns-in-Read : goal.returns-in-Read
-returns-in-Read c = (λ l. rw c.in-Read.is, λ l fit. fit)
+returns-in-Read c =
+    record {
+      result_value = λ l. rw c.in-Read.is;
+      action_fits = λ l fit. fit;
+    }
 
 pub returns-in-Refused : goal.returns-in-Refused
-returns-in-Refused c = (λ l. rw c.in-Refused.is, λ l fit. tt)
+returns-in-Refused c =
+    record {
+      result_value = λ l. rw c.in-Refused.is;
+      action_fits = λ l fit. tt;
+    }

@@ -7,14 +7,14 @@ read_rule_action-requires c = c.requires
 
 pub returns-then-acting : goal.returns-then-acting
 returns-then-acting c =
-    (
-      λ m w e. rw (c.if-acting.true, ← c.read_rule_action.ensures.0 m w e) (c.as_action.ensures.0 c.args.l.now),
-      c.as_action.ensures.1 c.args.l.now c.read_rule_action.ensures.1,
-    )
+    record {
+      result_value = λ m w e. rw (c.if-acting.true, ← c.read_rule_action.ensures.result_value m w e) (c.as_action.ensures.result_value c.args.l.now);
+      line_fits = c.as_action.ensures.line_fits c.args.l.now c.read_rule_action.ensures.action_fits;
+    }
 
 pub returns : goal.returns
 returns c =
-    (
-      λ m w e. rw (c.if-acting.false, ← c.read_rule_condition.ensures.0) (c.as_condition.ensures.0 c.args.l.now),
-      c.as_condition.ensures.1 c.args.l.now c.read_rule_condition.ensures.1,
-    )
+    record {
+      result_value = λ m w e. rw (c.if-acting.false, ← c.read_rule_condition.ensures.result_value) (c.as_condition.ensures.result_value c.args.l.now);
+      line_fits = c.as_condition.ensures.line_fits c.args.l.now c.read_rule_condition.ensures.condition_fits;
+    }

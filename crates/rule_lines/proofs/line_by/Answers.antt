@@ -12,41 +12,57 @@ pub read_rule_action-requires-in-Else : goal.read_rule_action-requires-in-Else
 read_rule_action-requires-in-Else c = c.requires
 
 pub returns-in-Rule : goal.returns-in-Rule
-returns-in-Rule c = (λ m w e. rw c.in-Rule.is c.named_line.ensures.0, c.named_line.ensures.1)
+returns-in-Rule c =
+    record {
+      result_value = λ m w e. rw c.in-Rule.is c.named_line.ensures.result_value;
+      line_fits = c.named_line.ensures.line_fits;
+    }
 
 pub returns-in-If : goal.returns-in-If
 returns-in-If c =
-    (
-      λ m w e. rw (c.in-If.is, ← c.read_rule_condition.ensures.0) (c.as_condition.ensures.0 c.args.l.now),
-      c.as_condition.ensures.1 c.args.l.now c.read_rule_condition.ensures.1,
-    )
+    record {
+      result_value = λ m w e. rw (c.in-If.is, ← c.read_rule_condition.ensures.result_value) (c.as_condition.ensures.result_value c.args.l.now);
+      line_fits = c.as_condition.ensures.line_fits c.args.l.now c.read_rule_condition.ensures.condition_fits;
+    }
 
 pub returns-in-Or : goal.returns-in-Or
 returns-in-Or c =
-    (
-      λ m w e. rw (c.in-Or.is, ← c.read_rule_condition-in-Or.ensures.0) (c.as_condition-in-Or.ensures.0 c.args.l.now),
-      c.as_condition-in-Or.ensures.1 c.args.l.now c.read_rule_condition-in-Or.ensures.1,
-    )
+    record {
+      result_value = λ m w e. rw (c.in-Or.is, ← c.read_rule_condition-in-Or.ensures.result_value) (c.as_condition-in-Or.ensures.result_value c.args.l.now);
+      line_fits = c.as_condition-in-Or.ensures.line_fits c.args.l.now c.read_rule_condition-in-Or.ensures.condition_fits;
+    }
 
 pub returns-in-Then : goal.returns-in-Then
 returns-in-Then c =
-    (
-      λ m w e. rw (c.in-Then.is, ← c.read_rule_action.ensures.0 m w e) (c.as_action.ensures.0 c.args.l.now),
-      c.as_action.ensures.1 c.args.l.now c.read_rule_action.ensures.1,
-    )
+    record {
+      result_value = λ m w e. rw (c.in-Then.is, ← c.read_rule_action.ensures.result_value m w e) (c.as_action.ensures.result_value c.args.l.now);
+      line_fits = c.as_action.ensures.line_fits c.args.l.now c.read_rule_action.ensures.action_fits;
+    }
 
 pub returns-in-And : goal.returns-in-And
-returns-in-And c = (λ m w e. rw c.in-And.is (c.and_line.ensures.0 m w e), c.and_line.ensures.1)
+returns-in-And c =
+    record {
+      result_value = λ m w e. rw c.in-And.is (c.and_line.ensures.result_value m w e);
+      line_fits = c.and_line.ensures.line_fits;
+    }
 
 pub returns-in-Else : goal.returns-in-Else
 returns-in-Else c =
-    (
-      λ m w e. rw (c.in-Else.is, ← c.read_rule_action-in-Else.ensures.0 m w e) (c.as_action-in-Else.ensures.0 c.args.l.now),
-      c.as_action-in-Else.ensures.1 c.args.l.now c.read_rule_action-in-Else.ensures.1,
-    )
+    record {
+      result_value = λ m w e. rw (c.in-Else.is, ← c.read_rule_action-in-Else.ensures.result_value m w e) (c.as_action-in-Else.ensures.result_value c.args.l.now);
+      line_fits = c.as_action-in-Else.ensures.line_fits c.args.l.now c.read_rule_action-in-Else.ensures.action_fits;
+    }
 
 pub returns-in-Priority : goal.returns-in-Priority
-returns-in-Priority c = (λ m w e. rw c.in-Priority.is c.ranked_line.ensures.0, c.ranked_line.ensures.1)
+returns-in-Priority c =
+    record {
+      result_value = λ m w e. rw c.in-Priority.is c.ranked_line.ensures.result_value;
+      line_fits = c.ranked_line.ensures.line_fits;
+    }
 
 pub returns-in-Unknown : goal.returns-in-Unknown
-returns-in-Unknown c = (λ m w e. rw c.in-Unknown.is, tt)
+returns-in-Unknown c =
+    record {
+      result_value = λ m w e. rw c.in-Unknown.is;
+      line_fits = tt;
+    }

@@ -5,9 +5,16 @@ use Rattle.leaf_fields.specs.Fields.{Fits, fields_at, name_in}
 use Rattle.rule_lines.proofs.named_line.Goals as goal
 
 pub returns-in_default : goal.returns-in_default
-returns-in_default c = (rw (c.next_field-f.ensures.nothing c.in_default.is), tt)
+returns-in_default c =
+    record {
+      result_value = rw (c.next_field-f.ensures.nothing c.in_default.is);
+      line_fits = tt;
+    }
 
 pub returns : goal.returns
 returns c =
     let field : (fields_at c.args.l.now c.args.at ≡ name_in c.args.l.now c.in-Taken.id ∷ fields_at c.args.l.now c.in-Taken.id.end) × Fits c.args.l.now c.in-Taken.id = c.next_field-f.ensures.taken _ c.in-Taken.is in
-    (rw (field).0, (field).1)
+    record {
+      result_value = rw (field).0;
+      line_fits = (field).1;
+    }

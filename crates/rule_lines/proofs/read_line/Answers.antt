@@ -7,7 +7,7 @@ use Rattle.rule_lines.proofs.read_line.Goals as goal
 
 pub returns-in_default : goal.returns-in_default
 unfolding said_of
-returns-in_default c = (λ m w e. rw (c.next_field-f.ensures.nothing c.in_default.is), tt)
+returns-in_default c = record { result_value = λ m w e. rw (c.next_field-f.ensures.nothing c.in_default.is); line_fits = tt }
 
 pub line_by-requires : goal.line_by-requires
 line_by-requires c = c.requires
@@ -16,4 +16,7 @@ pub returns : goal.returns
 unfolding said_of
 returns c =
     let field : (fields_at c.args.l.now c.args.at ≡ name_in c.args.l.now c.in-Taken.s ∷ fields_at c.args.l.now c.in-Taken.s.end) × Fits c.args.l.now c.in-Taken.s = c.next_field-f.ensures.taken _ c.in-Taken.is in
-    (λ m w e. rw ((field).0, ← c.letters_of.ensures, ← c.rule_word-word.ensures) (c.line_by.ensures.0 m w e), c.line_by.ensures.1)
+    record {
+      result_value = λ m w e. rw ((field).0, ← c.letters_of.ensures, ← c.rule_word-word.ensures) (c.line_by.ensures.result_value m w e);
+      line_fits = c.line_by.ensures.line_fits;
+    }

@@ -11,17 +11,17 @@ action_at-requires c = c.requires
 
 pub returns-in-Read : goal.returns-in-Read
 returns-in-Read c =
-    (
-      λ m w e. c.action_at.ensures.0 m w e
+    record {
+      result_value = λ m w e. c.action_at.ensures.result_value m w e
           ∙ sym (action-parts c.args.otherwise m (fields_at c.args.l.now c.args.at)
-          ∙ rw (sym c.read_action_head-read.ensures.0 ∙ ap (head_read c.args.l.now) c.in-Read.is)),
-      c.action_at.ensures.1 (subst (λ (x : HeadRead). HeadFits c.args.l.now x) c.in-Read.is c.read_action_head-read.ensures.1).1,
-    )
+          ∙ rw (sym c.read_action_head-read.ensures.result_value ∙ ap (head_read c.args.l.now) c.in-Read.is));
+      action_fits = c.action_at.ensures.action_fits (subst (λ (x : HeadRead). HeadFits c.args.l.now x) c.in-Read.is c.read_action_head-read.ensures.head_fits).1;
+    }
 
 pub returns-in-Refused : goal.returns-in-Refused
 returns-in-Refused c =
-    (
-      λ m w e. sym (action-parts c.args.otherwise m (fields_at c.args.l.now c.args.at)
-          ∙ rw (sym c.read_action_head-read.ensures.0 ∙ ap (head_read c.args.l.now) c.in-Refused.is)),
-      tt,
-    )
+    record {
+      result_value = λ m w e. sym (action-parts c.args.otherwise m (fields_at c.args.l.now c.args.at)
+          ∙ rw (sym c.read_action_head-read.ensures.result_value ∙ ap (head_read c.args.l.now) c.in-Refused.is));
+      action_fits = tt;
+    }
