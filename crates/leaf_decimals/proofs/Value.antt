@@ -8,7 +8,7 @@ use native.Mathlib.Nat.{le_of_eq, lt_of_lt_of_le, lt_of_le_of_lt, zero-lt-suc, m
 use native.Mathlib.Nat.{mul-lt-mul_of_pos_right, pow-suc, pow-le-pow_right, eq-zero-or-pos}
 use native.Mathlib.Omega.{arith}
 use lib.IntN.{pos}
-use lib.Dec.{T, leb, ltb, eqb, ltb→lt, lit<, leb→le}
+use lib.Dec.{T, leb, eqb, ltb→lt, lit<, leb→le}
 use lib.Pow.{pow-add, pow_mono, shl_lt}
 use lib.Ieee.{Float, nan, inf, fin, Format, binary64, emax, low, up, down, round, of_int, mul, div, neg}
 use lib.Ieee.Fits.{and_l, and_r}

@@ -1,5 +1,6 @@
 // Decimal numbers. specs/Numbers.antt says what is a number, and specs/Nearest.antt which double it gives.
 #![tactic(auto)]
+
 ghost use Rattle.std.specs.Prelude.{◌≡◌, ◌^◌, ◌<◌, ◌≤◌, min};
 ghost use Rattle.leaf_digits.specs.Cap.{cap};
 ghost use Rattle.leaf_decimals.specs.Nearest.{gap};

@@ -1,5 +1,6 @@
 // Fields, as parts of the text. A line is the caller's text up to the line's end, with the place where it starts: so every place is a place of the text.
 #![tactic(auto)]
+
 ghost use Rattle.std.specs.Prelude.{◌≡◌, List, ℕ};
 ghost use Rattle.leaf_fields.specs.Fields.{part, start_at, fields_at, letters_or, Next, Past};
 

@@ -1,5 +1,6 @@
 // Bytes compared: parts of a text, and fixed words.
 #![tactic(auto)]
+
 ghost use Rattle.std.specs.Prelude.{◌≡◌, take, drop};
 ghost use Rattle.leaf_letters.specs.Words.{same, raised, spelled, begins};
 

@@ -1,6 +1,7 @@
 // White bytes and lines, found by scans: where a line ends, where it is cut, what is left of it when it is trimmed. `leaf_fields` scans
 // for its fields the same way. A line is the caller's text up to the line's end, with the place where it starts: so every place is a place of the text.
 #![tactic(auto)]
+
 ghost use Rattle.std.specs.Prelude.{◌≡◌, ℕ, ◌+◌, length, take, drop};
 ghost use Rattle.leaf_scans.specs.Lines.{is_space, line_len, end_trimmed, trimmed, cut_of};
 ghost use Rattle.leaf_scans.specs.Scan.{is_kind, span_len};

@@ -1,9 +1,7 @@
 -- `leaf_decimals::is_word` meets its contract. Assumes nothing.
-use mathlib.Core.Path.{◌≡◌, refl, sym, ◌∙◌}
-use Prim.Native.Nat.{◌≤◌, ◌-◌, zero-le}
+use mathlib.Core.Path.{refl, sym, ◌∙◌}
+use Prim.Native.Nat.{zero-le}
 use native.Mathlib.Omega.{arith}
-use lib.ListN.{length, drop}
-use Rattle.leaf_decimals.specs.Numbers.{spells}
 use Rattle.leaf_decimals.proofs.Words.{spells-length, spells-step, spells-differ, spells-end}
 use Rattle.leaf_decimals.proofs.is_word.Goals as goal
 

@@ -1,10 +1,8 @@
 -- `leaf_decimals::is_word` meets its contract. Assumes nothing.
-use mathlib.Core.Path.{◌≡◌, refl, sym, ◌∙◌}
-use Prim.Native.Nat.{◌≤◌, ◌-◌, zero-le}
-use native.Mathlib.Omega.{arith}
+use mathlib.Core.Path.{◌≡◌}
+use Prim.Native.Nat.{◌≤◌, ◌-◌}
 use lib.ListN.{length, drop}
 use Rattle.leaf_decimals.specs.Numbers.{spells}
-use Rattle.leaf_decimals.proofs.Words.{spells-length, spells-step, spells-differ, spells-end}
 use Rattle.leaf_decimals.proofs.is_word.Given as goal
 
 abbrev pub invariant-loop-i : goal.invariant-loop-i

@@ -1,13 +1,9 @@
 -- `leaf_decimals::power_of_ten` meets its contract. Assumes nothing.
 use mathlib.Core.Path.{◌≡◌, sym, ap, ◌∙◌}
-use Prim.Native.Nat.{ℕ, suc, ◌≤◌, ◌<◌}
 use native.Mathlib.Omega.{arith}
 use Rattle.leaf_decimals.specs.Reach.{ten}
 use Rattle.leaf_decimals.proofs.Tens.{tens-at}
 use Rattle.leaf_decimals.proofs.power_of_ten.Goals as goal
-
-under : (n k : ℕ) → k ≤ n → (k ≡ n → ⊥) → suc k ≤ n
-under n k h d = omega (arith, d)
 
 pub returns-in-1 : goal.returns-in-1
 returns-in-1 c = tens-at 1 (omega arith) ∙ sym (ap ten c.in-1.is)
@@ -77,29 +73,5 @@ returns-in-22 c = tens-at 22 (omega arith) ∙ sym (ap ten c.in-22.is)
 
 pub returns-in_default : goal.returns-in_default
 returns-in_default c =
-    let k = c.args.k in
-    let r = c.in_default.rest in
-    let under22 : k < 22 = under 22 k (omega (arith, c.requires)) r.1 in
-    let under21 : k < 21 = under 21 k (omega arith) r.0.1 in
-    let under20 : k < 20 = under 20 k (omega arith) r.0.0.1 in
-    let under19 : k < 19 = under 19 k (omega arith) r.0.0.0.1 in
-    let under18 : k < 18 = under 18 k (omega arith) r.0.0.0.0.1 in
-    let under17 : k < 17 = under 17 k (omega arith) r.0.0.0.0.0.1 in
-    let under16 : k < 16 = under 16 k (omega arith) r.0.0.0.0.0.0.1 in
-    let under15 : k < 15 = under 15 k (omega arith) r.0.0.0.0.0.0.0.1 in
-    let under14 : k < 14 = under 14 k (omega arith) r.0.0.0.0.0.0.0.0.1 in
-    let under13 : k < 13 = under 13 k (omega arith) r.0.0.0.0.0.0.0.0.0.1 in
-    let under12 : k < 12 = under 12 k (omega arith) r.0.0.0.0.0.0.0.0.0.0.1 in
-    let under11 : k < 11 = under 11 k (omega arith) r.0.0.0.0.0.0.0.0.0.0.0.1 in
-    let under10 : k < 10 = under 10 k (omega arith) r.0.0.0.0.0.0.0.0.0.0.0.0.1 in
-    let under9 : k < 9 = under 9 k (omega arith) r.0.0.0.0.0.0.0.0.0.0.0.0.0.1 in
-    let under8 : k < 8 = under 8 k (omega arith) r.0.0.0.0.0.0.0.0.0.0.0.0.0.0.1 in
-    let under7 : k < 7 = under 7 k (omega arith) r.0.0.0.0.0.0.0.0.0.0.0.0.0.0.0.1 in
-    let under6 : k < 6 = under 6 k (omega arith) r.0.0.0.0.0.0.0.0.0.0.0.0.0.0.0.0.1 in
-    let under5 : k < 5 = under 5 k (omega arith) r.0.0.0.0.0.0.0.0.0.0.0.0.0.0.0.0.0.1 in
-    let under4 : k < 4 = under 4 k (omega arith) r.0.0.0.0.0.0.0.0.0.0.0.0.0.0.0.0.0.0.1 in
-    let under3 : k < 3 = under 3 k (omega arith) r.0.0.0.0.0.0.0.0.0.0.0.0.0.0.0.0.0.0.0.1 in
-    let under2 : k < 2 = under 2 k (omega arith) r.0.0.0.0.0.0.0.0.0.0.0.0.0.0.0.0.0.0.0.0.1 in
-    let under1 : k < 1 = under 1 k (omega arith) r.0.0.0.0.0.0.0.0.0.0.0.0.0.0.0.0.0.0.0.0.0.1 in
-    let e : k ≡ 0 = omega (arith, under1) in
+    let e : c.args.k ≡ 0 = omega arith in
     tens-at 0 (omega arith) ∙ sym (ap ten e)

@@ -1,6 +1,6 @@
 -- `leaf_decimals::read_ending` meets its contract. Assumes nothing.
 use mathlib.Core.Path.{sym, ap, ◌∙◌}
-use mathlib.Core.List.{List, [], ◌∷◌}
+use mathlib.Core.List.{List}
 use Prim.Native.Nat.{ℕ, ◌<◌}
 use native.Mathlib.Omega.{arith}
 use lib.ListN.{length}
@@ -32,4 +32,4 @@ returns-in_default c =
     let s : List ℕ = a.s.now in
     let h : 0 < length s = omega (arith, c.if-s-eq0.false) in
     ap outcome (sym (ending-other a.minus a.w a.count a.frac c.if-count-eq0.false s h
-    (not-class Exponent _ _ (0 ∷ 1 ∷ 2 ∷ 3 ∷ 5 ∷ []) c.class_of.ensures c.in_default.keys2 tt)))
+    (not-class Exponent _ c.class_of.ensures c.in_default.not-Exponent)))

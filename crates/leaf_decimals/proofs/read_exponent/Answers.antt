@@ -1,6 +1,6 @@
 -- `leaf_decimals::read_exponent` meets its contract. Assumes nothing.
 use mathlib.Core.Path.{sym, ap, ◌∙◌}
-use mathlib.Core.List.{List, [], ◌∷◌}
+use mathlib.Core.List.{List}
 use Prim.Native.Nat.{ℕ, ◌<◌}
 use native.Mathlib.Omega.{arith}
 use lib.ListN.{length, get_or}
@@ -30,4 +30,4 @@ returns-in_default c =
     let s : List ℕ = a.s.now in
     let h : 0 < length s = omega (arith, c.if-s-eq0.false) in
     c.read_power-in_default.ensures
-    ∙ ap outcome (sym (exponent-none a.minus a.w a.frac s h (not-class Sign _ _ (0 ∷ 1 ∷ 3 ∷ 4 ∷ 5 ∷ []) c.class_of.ensures c.in_default.keys2 tt)))
+    ∙ ap outcome (sym (exponent-none a.minus a.w a.frac s h (not-class Sign _ c.class_of.ensures c.in_default.not-Sign)))

@@ -1,12 +1,13 @@
 -- `leaf_decimals::read_number` meets its contract. Assumes nothing.
 use Rattle.leaf_decimals.proofs.Value.{both-clauses}
 use mathlib.Core.Path.{sym, ap, ◌∙◌}
-use mathlib.Core.List.{List, [], ◌∷◌}
+use mathlib.Core.List.{List}
 use Prim.Native.Nat.{ℕ, ◌<◌}
 use native.Mathlib.Omega.{arith}
 use lib.ListN.{length, get_or}
 use lib.Dec.{eqb}
 use Rattle.leaf_digits.specs.declared.Class.TheVariants.{Sign}
+use Rattle.leaf_decimals.specs.declared.Number.TheVariants.{Malformed}
 use Rattle.leaf_decimals.specs.Numbers.{unsigned, outcome}
 use Rattle.leaf_digits.proofs.Classes.{is-class, not-class}
 use Rattle.leaf_digits.proofs.Lists.{tail_of}
@@ -14,21 +15,25 @@ use Rattle.leaf_decimals.proofs.Reading.{number-nil, number-sign, number-none}
 use Rattle.leaf_decimals.proofs.read_number.Goals as goal
 
 pub returns-then-s-eq0 : goal.returns-then-s-eq0
-returns-then-s-eq0 c = both-clauses _ _ (sym (number-nil _ c.if-s-eq0.true))
+returns-then-s-eq0 c =
+    let p = both-clauses c.args.s.now Malformed (sym (number-nil _ c.if-s-eq0.true)) in
+    record { value = p.0; nearest = p.1 }
 
 pub returns-in-Sign : goal.returns-in-Sign
 returns-in-Sign c =
     let s : List ℕ = c.args.s.now in
     let h : 0 < length s = omega (arith, c.if-s-eq0.false) in
-    both-clauses s c.read_unsigned.result
+    let p = both-clauses s c.read_unsigned.result
     (c.read_unsigned.ensures
     ∙ ap (λ (l : List ℕ). outcome (unsigned (eqb (get_or s 0 0) 45) l)) (tail_of s 1)
-    ∙ sym (number-sign s h (is-class Sign _ c.class_of.ensures c.in-Sign.is)))
+    ∙ sym (number-sign s h (is-class Sign _ c.class_of.ensures c.in-Sign.is))) in
+    record { value = p.0; nearest = p.1 }
 
 pub returns-in_default : goal.returns-in_default
 returns-in_default c =
     let s : List ℕ = c.args.s.now in
     let h : 0 < length s = omega (arith, c.if-s-eq0.false) in
-    both-clauses s c.read_unsigned-in_default.result
+    let p = both-clauses s c.read_unsigned-in_default.result
     (c.read_unsigned-in_default.ensures
-    ∙ sym (number-none s h (not-class Sign _ _ (0 ∷ 1 ∷ 3 ∷ 4 ∷ 5 ∷ []) c.class_of.ensures c.in_default.keys2 tt)))
+    ∙ sym (number-none s h (not-class Sign _ c.class_of.ensures c.in_default.not-Sign))) in
+    record { value = p.0; nearest = p.1 }

@@ -1,7 +1,6 @@
 -- `leaf_decimals::read_unsigned` meets its contract. Assumes nothing.
 use mathlib.Core.Path.{◌≡◌, refl, sym, ap, ◌∙◌}
 use mathlib.Core.Bool.{Bool, true, false}
-use mathlib.Core.Logic.{⊎_elim}
 use mathlib.Core.List.{List}
 use Prim.Native.Nat.{ℕ, ◌≤◌}
 use native.Mathlib.Omega.{arith}
@@ -9,10 +8,11 @@ use lib.ListN.{length}
 use lib.Ieee.{inf, nan, binary64, of_bits, div, neg}
 use Rattle.leaf_decimals.specs.declared.Number.TheVariants.{Value}
 use Rattle.leaf_decimals.specs.Reach.{signed}
-use Rattle.leaf_digits.specs.Digits.{digits}
-use Rattle.leaf_decimals.specs.Numbers.{outcome}
+use Rattle.leaf_digits.specs.Digits.{digits, after, value}
+use Rattle.leaf_decimals.specs.Numbers.{outcome, unsigned, point}
 use Rattle.leaf_digits.proofs.Digits.{digits_le}
 use Rattle.leaf_decimals.proofs.Reading.{digits-law, unsigned-inf, unsigned-infinity, unsigned-nan, unsigned-digits, unsigned-begun}
+use Rattle.leaf_decimals.proofs.read_unsigned.Goals.{then-n-eq0+else-is_word+else-is_word-2+else-is_word-3, else-n-eq0}
 use Rattle.leaf_decimals.proofs.read_unsigned.Goals as goal
 
 fits-part : (t : List ℕ) (n : ℕ) → n ≡ length (digits t) → n ≤ length t
@@ -51,7 +51,11 @@ pub returns : goal.returns
 returns c =
     let a = c.args in
     let l = c.leading-d.ensures in
-    c.read_point.ensures
-    ∙ digits-law _ _ _ _ l.0 l.1
-    ∙ ap outcome (sym (⊎_elim (λ w. unsigned-digits a.minus a.s.now (sym w.2.ensures ∙ w.3.left) (sym w.5.ensures ∙ w.6.left)
-    (sym w.8.ensures ∙ w.9.left)) (λ w. unsigned-begun a.minus a.s.now (λ q. w.left (l.0 ∙ q))) c.if-n-eq0.branch))
+    let u : unsigned a.minus a.s.now ≡ point a.minus (value 0 (digits a.s.now)) (length (digits a.s.now)) (after a.s.now) =
+    elim c.if-n-eq0.branch [
+      | then-n-eq0+else-is_word+else-is_word-2+else-is_word-3 w ↦
+          unsigned-digits a.minus a.s.now (sym w.is_word.ensures ∙ w.if-is_word.false) (sym w.is_word-then-n-eq0.ensures ∙ w.if-is_word-2.false)
+          (sym w.is_word-then-n-eq0-2.ensures ∙ w.if-is_word-3.false)
+      | else-n-eq0 w ↦ unsigned-begun a.minus a.s.now (λ q. w.if-n-eq0.false (l.0 ∙ q))
+    ] in
+    c.read_point.ensures ∙ digits-law _ _ _ _ l.0 l.1 ∙ ap outcome (sym u)

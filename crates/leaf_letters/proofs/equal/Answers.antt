@@ -1,10 +1,9 @@
 -- `leaf_letters::equal` meets its contract. Assumes nothing.
-use Prim.Native.Nat.{ℕ, ◌-◌}
+use Prim.Native.Nat.{ℕ}
 use native.Mathlib.Omega.{arith}
 use native.Mathlib.Numerals.{add-one}
-use mathlib.Core.Path.{◌≡◌, sym, ap, ◌∙◌}
-use mathlib.Core.List.{List, map}
-use lib.ListN.{length, drop}
+use mathlib.Core.Path.{sym, ap, ◌∙◌}
+use mathlib.Core.List.{List}
 use Rattle.leaf_letters.specs.Words.{same}
 use Rattle.leaf_letters.proofs.WordLaws.{same-long, same_more, same_not, same_end, map-id}
 use Rattle.leaf_letters.proofs.equal.Goals as goal

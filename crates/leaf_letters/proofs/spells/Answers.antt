@@ -1,11 +1,8 @@
 -- `leaf_letters::spells` meets its contract. Assumes nothing.
-use Prim.Native.Nat.{◌-◌}
 use native.Mathlib.Omega.{arith}
 use native.Mathlib.Numerals.{add-one}
-use mathlib.Core.Path.{◌≡◌, refl, sym, ◌∙◌}
-use mathlib.Core.List.{map}
-use lib.ListN.{length, drop}
-use Rattle.leaf_letters.specs.Words.{same, raised}
+use mathlib.Core.Path.{refl, sym, ◌∙◌}
+use Rattle.leaf_letters.specs.Words.{raised}
 use Rattle.leaf_letters.proofs.WordLaws.{same-long, same_more, same_not, same_end}
 use Rattle.leaf_letters.proofs.spells.Goals as goal
 

@@ -1,12 +1,9 @@
 -- `leaf_letters::spells` meets its contract. Assumes nothing.
 use Prim.Native.Nat.{◌-◌}
-use native.Mathlib.Omega.{arith}
-use native.Mathlib.Numerals.{add-one}
-use mathlib.Core.Path.{◌≡◌, refl, sym, ◌∙◌}
+use mathlib.Core.Path.{◌≡◌}
 use mathlib.Core.List.{map}
 use lib.ListN.{length, drop}
 use Rattle.leaf_letters.specs.Words.{same, raised}
-use Rattle.leaf_letters.proofs.WordLaws.{same-long, same_more, same_not, same_end}
 use Rattle.leaf_letters.proofs.spells.Given as goal
 
 abbrev pub invariant-loop-i : goal.invariant-loop-i

@@ -1,11 +1,8 @@
 -- `leaf_scans::reach` meets its contract. Assumes nothing.
 use Prim.Native.Nat.{◌+◌, ◌-◌}
-use native.Mathlib.Omega.{arith}
-use native.Mathlib.Numerals.{add-one}
-use mathlib.Core.Path.{◌≡◌, refl, sym, ◌∙◌}
+use mathlib.Core.Path.{◌≡◌}
 use lib.ListN.{length, drop}
 use Rattle.leaf_scans.specs.Scan.{span_len}
-use Rattle.leaf_scans.proofs.ScanLaws.{span-on, span-off, span-end}
 use Rattle.leaf_scans.proofs.reach.Given as goal
 
 abbrev pub invariant-loop-i : goal.invariant-loop-i

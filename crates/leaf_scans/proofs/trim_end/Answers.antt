@@ -1,8 +1,7 @@
 -- `leaf_scans::trim_end` meets its contract. Assumes nothing.
-use Prim.Native.Nat.{◌≤◌}
 use native.Mathlib.Omega.{arith}
-use mathlib.Core.Path.{◌≡◌, sym, ap, ◌∙◌}
-use lib.ListN.{length, take}
+use mathlib.Core.Path.{sym, ap, ◌∙◌}
+use lib.ListN.{length}
 use lib.Seq.{take-length}
 use Rattle.leaf_scans.specs.Lines.{end_trimmed}
 use Rattle.leaf_scans.proofs.LineLaws.{trim-more, trim-stop, trim-nothing}

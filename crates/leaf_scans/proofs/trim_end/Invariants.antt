@@ -1,11 +1,8 @@
 -- `leaf_scans::trim_end` meets its contract. Assumes nothing.
 use Prim.Native.Nat.{◌≤◌}
-use native.Mathlib.Omega.{arith}
-use mathlib.Core.Path.{◌≡◌, sym, ap, ◌∙◌}
+use mathlib.Core.Path.{◌≡◌}
 use lib.ListN.{length, take}
-use lib.Seq.{take-length}
 use Rattle.leaf_scans.specs.Lines.{end_trimmed}
-use Rattle.leaf_scans.proofs.LineLaws.{trim-more, trim-stop, trim-nothing}
 use Rattle.leaf_scans.proofs.trim_end.Given as goal
 
 abbrev pub invariant-loop-e : goal.invariant-loop-e
