@@ -1,5 +1,6 @@
 // Reads a line of EMITTERS, an id and a number, or of COORDINATES or CURVES, an id and two: the fields in order, and what they say. Nothing is looked up or stored here.
 #![tactic(auto)]
+
 ghost use Rattle.leaf_fields.specs.Fields.{fields_at};
 ghost use Rattle.scope.specs.Nodes.{emitter_of};
 ghost use Rattle.scope.specs.Values.{pair_of};

@@ -1,6 +1,7 @@
 // What a line of PIPES, PUMPS or VALVES says, the names with which each starts, and a line of PIPES read whole (parse_pumps and parse_valves
 // read the other two). Nothing is looked up or stored here.
 #![tactic(auto)]
+
 ghost use Rattle.std.specs.Prelude.{◌≡◌};
 ghost use Rattle.leaf_fields.specs.Fields.{fields_at};
 ghost use Rattle.scope.specs.Links.{status_in, pipe_of};

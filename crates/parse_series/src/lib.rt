@@ -1,5 +1,6 @@
 // Parses a line of PATTERNS or DEMANDS. A line of CURVES is an id and two numbers: parse_pairs::read_pair.
 #![tactic(auto)]
+
 ghost use Rattle.leaf_fields.specs.Fields.{fields_at};
 ghost use Rattle.scope.specs.Series.{multipliers_of, pattern_of, demand_of};
 ghost use Rattle.parse_series.specs.Lines.{CountedAs, PatternAs, DemandAs};

@@ -1,5 +1,6 @@
 // What the words of a rule's clauses say: a comparison, the value of a condition, and the value of an action.
 #![tactic(auto)]
+
 ghost use Rattle.std.specs.Prelude.{◌≡◌, ◌||◌, [], ℕ};
 ghost use Rattle.leaf_decimals.specs.Numbers.{number_of};
 ghost use Rattle.leaf_letters.specs.Words.{same};

@@ -65,7 +65,7 @@ returns-in_default-fourth c =
     (told-why c.reason_of-in_default-fourth.ensures c.in_default-fourth.is)
 
 pub returns : goal.returns
-unfolding pipe_of Ieee.of_bits Ieee.of_bits
+unfolding pipe_of Ieee.of_bits
 returns c =
     let s1 : let a = c.args in let l = a.l.now in (fields_at l a.at ≡ name_in l c.in-Names.names.id ∷ name_in l c.in-Names.names.start ∷ name_in l c.in-Names.names.end ∷ fields_at l c.in-Names.names.end.end) × NamesFit l c.in-Names.names = let a = c.args in
     let l = a.l.now in

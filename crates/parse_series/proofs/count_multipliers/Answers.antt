@@ -3,7 +3,6 @@ use Prim.Native.Nat.{ℕ, ◌+◌}
 use native.Mathlib.Omega.{arith}
 use mathlib.Core.Path.{◌≡◌, sym, ap, subst, ◌∙◌}
 use mathlib.Core.List.{◌∷◌}
-use mathlib.Core.Logic.{⊎_elim}
 use lib.ListN.{length}
 use Rattle.leaf_decimals.specs.Numbers.{number_of}
 use Rattle.leaf_decimals.specs.declared.Number as D
@@ -12,8 +11,9 @@ use Rattle.parse_fields.specs.declared.NextNumber.{NextNumber}
 use Rattle.parse_fields.specs.declared.TookNumber.{TookNumber}
 use Rattle.parse_fields.specs.declared.TookNumber.TheVariants.{Number}
 use Rattle.parse_fields.specs.Taking.{Numbered, number_took}
-use Rattle.parse_series.proofs.PatternLaws.{Going, start-going, keep-going, pass-going, less-going, done-going, bad-going, line-le}
+use Rattle.parse_series.proofs.PatternLaws.{start-going, keep-going, pass-going, less-going, done-going, bad-going, line-le}
 use Rattle.parse_series.proofs.count_multipliers.Goals as goal
+use Rattle.parse_series.proofs.count_multipliers.Goals.{then-n-first, else-n-first}
 
 took : {n m : D.Number} (e : ℕ) {t s : TookNumber} → n ≡ m → t ≡ number_took n e → t ≡ s → number_took m e ≡ s
 took e same made is = ap (λ (n : D.Number). number_took n e) (sym same) ∙ sym made ∙ is
@@ -54,8 +54,10 @@ loop-number-preserved c =
     let step : let a = c.args in let l = a.l.now in (f : Name) × (fields_at l c.loop-number.p ≡ f ∷ fields_at l c.in-Is.end) × (number_took (number_of f.letters) c.in-Is.end ≡ Number c.in-Number.x c.in-Number.next) = let f = field in (f.0, f.1, took c.in-Is.end f.2 c.as_number-t.ensures c.in-Number.is) in
     let f = step in
     let g = c.loop-number.invariant in
-    ⊎_elim (λ w. rw (w.1, w.2) (keep-going g _ _ _ _ _ f.1 f.2 (omega (arith, w.0.taken, g.room))))
-    (λ w. rw (w.1, w.2) (pass-going g _ _ _ _ _ f.1 f.2 (omega (arith, w.0.left, g.room)))) c.if-n-first.branch
+    elim c.if-n-first.branch [
+      | then-n-first w ↦ rw (w.first-is, w.rest-is) (keep-going g _ _ _ _ _ f.1 f.2 (omega (arith, w.if-n-first.true, g.room)))
+      | else-n-first w ↦ rw (w.first-is, w.rest-is) (pass-going g _ _ _ _ _ f.1 f.2 (omega (arith, w.if-n-first.false, g.room)))
+    ]
 
 pub shape_of-first-in-NoNumber : goal.shape_of-first-in-NoNumber
 shape_of-first-in-NoNumber c = c.loop-number.invariant.room

@@ -17,10 +17,10 @@ pub returns-in-Count : goal.returns-in-Count
 unfolding pattern_of
 returns-in-Count c =
     let field : let a = c.args in let l = a.l.now in (fields_at l a.at ≡ name_in l c.in-Taken.id ∷ fields_at l c.in-Taken.id.end) × Fits l c.in-Taken.id = c.next_field-f.ensures.taken _ c.in-Taken.is in
-    let all-is : let a = c.args in let l = a.l.now in (xs : List Float) × (multipliers_of (fields_at l c.in-Taken.id.end) ≡ good xs) × Multipliers l c.count_multipliers-all.new.1.1.0 c.in-Count.count c.in-Count.rest xs = let a = c.args in
+    let all-is : let a = c.args in let l = a.l.now in (xs : List Float) × (multipliers_of (fields_at l c.in-Taken.id.end) ≡ good xs) × Multipliers l c.count_multipliers-all.new.first c.in-Count.count c.in-Count.rest xs = let a = c.args in
     let l = a.l.now in
-    subst (λ (x : Counted). CountedAs l c.count_multipliers-all.new.1.1.0 (multipliers_of (fields_at l c.in-Taken.id.end)) x) c.in-Count.is c.count_multipliers-all.ensures in
-    record { values = (all-is).0; whole = rw ((field).0, (all-is).1); read = (all-is).2; fits = (field).1 }
+    subst (λ (x : Counted). CountedAs l c.count_multipliers-all.new.first (multipliers_of (fields_at l c.in-Taken.id.end)) x) c.in-Count.is c.count_multipliers-all.ensures in
+    record { values = (all-is).0; whole = simp ((field).0, (all-is).1); read = (all-is).2; fits = (field).1 }
 
 pub returns-in-NoCount : goal.returns-in-NoCount
 unfolding pattern_of
@@ -28,5 +28,5 @@ returns-in-NoCount c =
     let field : let a = c.args in let l = a.l.now in (fields_at l a.at ≡ name_in l c.in-Taken.id ∷ fields_at l c.in-Taken.id.end) × Fits l c.in-Taken.id = c.next_field-f.ensures.taken _ c.in-Taken.is in
     let no_all : let a = c.args in multipliers_of (fields_at a.l.now c.in-Taken.id.end) ≡ bad c.in-NoCount.why = let a = c.args in
     let l = a.l.now in
-    subst (λ (x : Counted). CountedAs l c.count_multipliers-all.new.1.1.0 (multipliers_of (fields_at l c.in-Taken.id.end)) x) c.in-NoCount.is c.count_multipliers-all.ensures in
+    subst (λ (x : Counted). CountedAs l c.count_multipliers-all.new.first (multipliers_of (fields_at l c.in-Taken.id.end)) x) c.in-NoCount.is c.count_multipliers-all.ensures in
     rw ((field).0, no_all)

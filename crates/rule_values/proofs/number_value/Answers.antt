@@ -3,10 +3,10 @@ use mathlib.Core.Path.{sym, ◌∙◌}
 use Rattle.rule_values.proofs.number_value.Goals as goal
 
 pub returns-in-Value : goal.returns-in-Value
-returns-in-Value c = rw (sym c.read_number-n.ensures.0 ∙ c.in-Value.is)
+returns-in-Value c = rw (sym c.read_number-n.ensures.value ∙ c.in-Value.is)
 
 pub returns-in-Malformed : goal.returns-in-Malformed
-returns-in-Malformed c = rw (sym c.read_number-n.ensures.0 ∙ c.in-Malformed.is)
+returns-in-Malformed c = rw (sym c.read_number-n.ensures.value ∙ c.in-Malformed.is)
 
 pub returns-in-Beyond : goal.returns-in-Beyond
-returns-in-Beyond c = rw (sym c.read_number-n.ensures.0 ∙ c.in-Beyond.is)
+returns-in-Beyond c = rw (sym c.read_number-n.ensures.value ∙ c.in-Beyond.is)
