@@ -1,5 +1,6 @@
 // Stores what a line of CURVES says, as parse_pairs::read_pair reads it.
 #![tactic(auto)]
+
 ghost use Rattle.std.specs.Prelude.{◌≡◌, List, [], ◌∷◌, ℕ, ◌+◌, ◌*◌, ◌≤◌, ◌<◌, length, take};
 ghost use Rattle.leaf_fields.specs.Fields.{fields_at, name_in, Fits};
 ghost use Rattle.scope.specs.Sections.{room_points};

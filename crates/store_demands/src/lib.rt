@@ -1,5 +1,6 @@
 // Stores what a line of DEMANDS says, as parse_series reads it: the first line of a junction takes the place of the demand of its own line.
 #![tactic(auto)]
+
 ghost use Rattle.std.specs.Prelude.{◌≡◌, List, [], ◌∷◌, ℕ, ◌+◌, ◌*◌, ◌≤◌, ◌<◌, length, take, get_or};
 ghost use Rattle.leaf_fields.specs.Fields.{fields_at, name_in, Fits};
 ghost use Rattle.scope.specs.Sections.{room_demands};

@@ -1,7 +1,7 @@
 -- `store_curves::falls_behind` meets its contract. Assumes nothing.
 use native.Mathlib.Omega.{arith}
 use lib.Ieee.{nan}
-use Rattle.store_curves.proofs.CurveLaws.{Sought, start-sought, next-sought, found-sought, none-sought}
+use Rattle.store_curves.proofs.CurveLaws.{start-sought, next-sought, found-sought, none-sought}
 use Rattle.store_curves.proofs.falls_behind.Goals as goal
 
 pub loop-k-init : goal.loop-k-init

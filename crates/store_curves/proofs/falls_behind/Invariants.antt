@@ -1,7 +1,5 @@
 -- `store_curves::falls_behind` meets its contract. Assumes nothing.
-use native.Mathlib.Omega.{arith}
-use lib.Ieee.{nan}
-use Rattle.store_curves.proofs.CurveLaws.{Sought, start-sought, next-sought, found-sought, none-sought}
+use Rattle.store_curves.proofs.CurveLaws.{Sought}
 use Rattle.store_curves.proofs.falls_behind.Given as goal
 
 abbrev pub invariant-loop-k : goal.invariant-loop-k

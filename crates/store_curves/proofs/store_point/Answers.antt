@@ -44,7 +44,7 @@ put_id-requires c = (c.if-n-lt-CURVES_MOST.true, omega arith, omega arith, holds
 pub put_point-requires-then-k-lt-POINTS_MOST-2 : goal.put_point-requires-then-k-lt-POINTS_MOST-2
 put_point-requires-then-k-lt-POINTS_MOST-2 c =
     let h = c.requires.0.holds in
-    let long : length c.put_id.new.1.1.1.1.1.0 ≡ length c.args.words.now = c.put_id.auto.1.1.1.1.1.0 in
+    let long : length c.put_id.new.words ≡ length c.args.words.now = c.put_id.auto.words in
     (c.if-k-lt-POINTS_MOST-2.true, long ∙ holds-words h, holds-numbers h)
 
 pub returns-then-k-lt-POINTS_MOST-2 : goal.returns-then-k-lt-POINTS_MOST-2

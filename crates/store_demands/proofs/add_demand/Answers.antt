@@ -33,12 +33,11 @@ put_demand-requires-then-n-lt-DEMANDS_MOST c =
     (c.if-n-lt-DEMANDS_MOST.true, holds-words c.requires.0.holds, holds-numbers c.requires.0.holds)
 
 pub mark-requires : goal.mark-requires
-mark-requires c =
-    (
-      let k : length c.put_demand-then-n-lt-DEMANDS_MOST.new.1.1.1.1.0 ≡ length c.args.words.now = c.put_demand-then-n-lt-DEMANDS_MOST.auto.1.1.1.1.0 in
-          omega (arith, k, holds-words c.requires.0.holds),
-      omega (arith, c.if-n-lt-DEMANDS_MOST.true),
-    )
+mark-requires c = (
+  let k : length c.put_demand-then-n-lt-DEMANDS_MOST.new.words ≡ length c.args.words.now = c.put_demand-then-n-lt-DEMANDS_MOST.auto.words in
+      omega (arith, k, holds-words c.requires.0.holds),
+  omega (arith, c.if-n-lt-DEMANDS_MOST.true),
+)
 
 pub overflow_add-t : goal.overflow_add-t
 overflow_add-t c = omega (arith, c.if-n-lt-DEMANDS_MOST.true)

@@ -23,9 +23,8 @@ paste_numbers-requires c =
     omega (arith, c.requires.0, c.requires.1, c.requires.2)
 
 pub returns : goal.returns
-returns c =
-    (
-      c.paste_words.ensures ∙ ap (λ (l : List ℕ). splice c.args.words.now (demands_at + c.args.k * demands_width) l)
-          (demand-words c.args.text.now c.args.node c.args.d.base c.args.d.pattern c.name_words-p.result c.name_words-p.ensures),
-      c.paste_numbers.ensures,
-    )
+returns c = (
+  c.paste_words.ensures ∙ ap (λ (l : List ℕ). splice c.args.words.now (demands_at + c.args.k * demands_width) l)
+      (demand-words c.args.text.now c.args.node c.args.d.base c.args.d.pattern c.name_words-p.result c.name_words-p.ensures),
+  c.paste_numbers.ensures,
+)

@@ -16,20 +16,20 @@ slice_bounds-line-end c = sym (length-take-le c.args.end c.args.text.now c.requi
 
 pub store_pattern-requires : goal.store_pattern-requires
 store_pattern-requires c =
-    let is_read : PatternIs (take c.args.end c.args.text.now) c.read_pattern-read.new.1.1.0 (pattern_of (fields_at (take c.args.end c.args.text.now) c.args.at)) c.in-Pattern.p = subst (λ (x : PatternRead). PatternAs (take c.args.end c.args.text.now) c.read_pattern-read.new.1.1.0
+    let is_read : PatternIs (take c.args.end c.args.text.now) c.read_pattern-read.new.first (pattern_of (fields_at (take c.args.end c.args.text.now) c.args.at)) c.in-Pattern.p = subst (λ (x : PatternRead). PatternAs (take c.args.end c.args.text.now) c.read_pattern-read.new.first
     (pattern_of (fields_at (take c.args.end c.args.text.now) c.args.at)) x) c.in-Pattern.is c.read_pattern-read.ensures in
     let r = is_read in (c.requires.0, fits-text c.args.text.now c.args.end c.in-Pattern.p.id r.fits, (r.values, r.read))
 
 pub returns-in-Pattern : goal.returns-in-Pattern
 unfolding pattern_step
 returns-in-Pattern c =
-    let is_read : PatternIs (take c.args.end c.args.text.now) c.read_pattern-read.new.1.1.0 (pattern_of (fields_at (take c.args.end c.args.text.now) c.args.at)) c.in-Pattern.p = subst (λ (x : PatternRead). PatternAs (take c.args.end c.args.text.now) c.read_pattern-read.new.1.1.0
+    let is_read : PatternIs (take c.args.end c.args.text.now) c.read_pattern-read.new.first (pattern_of (fields_at (take c.args.end c.args.text.now) c.args.at)) c.in-Pattern.p = subst (λ (x : PatternRead). PatternAs (take c.args.end c.args.text.now) c.read_pattern-read.new.first
     (pattern_of (fields_at (take c.args.end c.args.text.now) c.args.at)) x) c.in-Pattern.is c.read_pattern-read.ensures in
     λ m h. let r = is_read in rw (pattern-text c.args.text.now c.args.end r.whole r.fits) (c.store_pattern.ensures m r.values h r.read)
 
 pub returns-in-NoPattern : goal.returns-in-NoPattern
 unfolding pattern_step
 returns-in-NoPattern c =
-    let no_read : pattern_of (fields_at (take c.args.end c.args.text.now) c.args.at) ≡ bad c.in-NoPattern.why = subst (λ (x : PatternRead). PatternAs (take c.args.end c.args.text.now) c.read_pattern-read.new.1.1.0
+    let no_read : pattern_of (fields_at (take c.args.end c.args.text.now) c.args.at) ≡ bad c.in-NoPattern.why = subst (λ (x : PatternRead). PatternAs (take c.args.end c.args.text.now) c.read_pattern-read.new.first
     (pattern_of (fields_at (take c.args.end c.args.text.now) c.args.at)) x) c.in-NoPattern.is c.read_pattern-read.ensures in
     λ m h. rw (no_read) (refl, refl, refl)

@@ -23,8 +23,8 @@ pub put_rest-requires : goal.put_rest-requires
 put_rest-requires c =
     let more : length c.args.first.now ≤ c.args.p.count = omega (arith, c.if-count-first.false) in
     let p = c.requires in
-    let long_w : length c.put_numbers-2.new.1.1.1.0 ≡ length c.args.words.now = c.put_numbers-2.auto.1.1.1.0 in
-    let long_n : length c.put_numbers-2.new.1.1.1.1.0 ≡ length c.args.numbers.now = c.put_numbers-2.auto.1.1.1.1.0 in
+    let long_w : length c.put_numbers-2.new.words ≡ length c.args.words.now = c.put_numbers-2.auto.words in
+    let long_n : length c.put_numbers-2.new.numbers ≡ length c.args.numbers.now = c.put_numbers-2.auto.numbers in
     (drop (length c.args.first.now) p.0, p.1.left, rest-room p.1 c.args.k p.2 (more), long_w ∙ p.3, long_n ∙ p.4)
 
 pub returns : goal.returns

@@ -41,7 +41,7 @@ put_multipliers-requires-then-n-lt-PATTERNS_MOST c =
     let fit : c.args.s.multipliers + length c.requires.2.0 ≤ room_multipliers = omega (arith, c.if-k-count-gt-MULTIPLIERS_MOST.false, c.requires.2.1.long) in
     let p = c.requires in
     let h = p.0.holds in
-    let long : length c.put_id.new.1.1.1.1.1.0 ≡ length c.args.words.now = c.put_id.auto.1.1.1.1.1.0 in
+    let long : length c.put_id.new.words ≡ length c.args.words.now = c.put_id.auto.words in
     (p.2.0, p.2.1, fit, long ∙ holds-words h, holds-numbers h)
 
 pub returns-then-n-lt-PATTERNS_MOST : goal.returns-then-n-lt-PATTERNS_MOST

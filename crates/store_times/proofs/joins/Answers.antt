@@ -5,13 +5,13 @@ use Rattle.store_times.proofs.joins.Goals as goal
 
 pub returns-in-Value : goal.returns-in-Value
 returns-in-Value c =
-    value_stays (name_in c.args.l.now c.args.f) _ c.letters_of-s.ensures c.read_number-n.result c.read_number-n.ensures.0 _ c.in-Value.is
+    value_stays (name_in c.args.l.now c.args.f) _ c.letters_of-s.ensures c.read_number-n.result c.read_number-n.ensures.value _ c.in-Value.is
 
 pub returns-in-Malformed : goal.returns-in-Malformed
 returns-in-Malformed c =
-    malformed-joins (name_in c.args.l.now c.args.f) _ c.letters_of-s.ensures c.read_number-n.result c.read_number-n.ensures.0
+    malformed-joins (name_in c.args.l.now c.args.f) _ c.letters_of-s.ensures c.read_number-n.result c.read_number-n.ensures.value
     c.in-Malformed.is c.has_colon.result c.has_colon.ensures
 
 pub returns-in-Beyond : goal.returns-in-Beyond
 returns-in-Beyond c =
-    beyond-stays (name_in c.args.l.now c.args.f) _ c.letters_of-s.ensures c.read_number-n.result c.read_number-n.ensures.0 c.in-Beyond.is
+    beyond-stays (name_in c.args.l.now c.args.f) _ c.letters_of-s.ensures c.read_number-n.result c.read_number-n.ensures.value c.in-Beyond.is
