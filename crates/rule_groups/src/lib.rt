@@ -1,5 +1,6 @@
 // Judges a rule group: its lines, seen one after another, make a sketch, and the sketch says whether the group is taken.
 #![tactic(auto)]
+
 ghost use Rattle.std.specs.Prelude.{◌≡◌, List, ℕ, ◌+◌, ◌≤◌, ◌<◌, length};
 ghost use Rattle.scope.specs.Records.{Network, Clause, with_clauses};
 ghost use Rattle.scope.specs.Sections.{room_clauses};

@@ -3,7 +3,6 @@ use mathlib.Core.Path.{sym, ap, ◌∙◌}
 use native.Mathlib.Omega.{arith}
 use Rattle.scope.specs.Records.{rule_ids, lookup, with_clauses}
 use Rattle.rule_groups.proofs.JudgeLaws.{no-condition, no-action, no-id, used, rules-full, clauses-full, rule_fits}
-use borrow.Author.Rules.{rules}
 use Rattle.rule_groups.proofs.judge_group.Goals as goal
 
 pub returns-in_default : goal.returns-in_default
