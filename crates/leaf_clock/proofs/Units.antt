@@ -1,5 +1,5 @@
 -- The unit, and its final S. Assumes nothing.
-use Rattle.std.proofs.Common.{◌≡◌, ℕ, ◌-◌, List, [], ◌∷◌, length, refl, arith}
+use Rattle.std.proofs.Common.{◌≡◌, ℕ, List, [], ◌∷◌, length, refl, arith}
 use Rattle.leaf_letters.specs.Words.{same}
 use Rattle.leaf_clock.specs.declared.Unit.TheVariants.{Hour}
 use Rattle.leaf_clock.specs.Times.{without_s, unit_words, named, unit_of}

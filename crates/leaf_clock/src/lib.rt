@@ -1,5 +1,6 @@
 // Times: hours and minutes with a colon, or a number with a unit. See specs/Times.antt for the rules.
 #![tactic(auto)]
+
 ghost use Rattle.std.specs.Prelude.{◌≡◌};
 ghost use Rattle.leaf_clock.specs.Cut.{cut};
 ghost use Rattle.leaf_clock.specs.Times.{colon_at, before_colon, morning, afternoon, hour_of, colon_form, without_s, unit_words, named, unit_of, in_unit, time_of};

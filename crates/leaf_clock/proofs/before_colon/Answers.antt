@@ -1,5 +1,5 @@
 -- `leaf_clock::before_colon` meets its contract. Assumes nothing.
-use Rattle.std.proofs.Common.{ℕ, take, ap, arith, rules}
+use Rattle.std.proofs.Common.{ℕ, take, ap, arith}
 use Rattle.leaf_clock.proofs.Colon.{colon-le}
 use Rattle.leaf_clock.proofs.Parts.{start-length}
 use Rattle.leaf_clock.proofs.before_colon.Goals as goal

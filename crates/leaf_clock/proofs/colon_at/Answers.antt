@@ -1,6 +1,5 @@
 -- `leaf_clock::colon_at` meets its contract. Assumes nothing.
-use Rattle.std.proofs.Common.{◌≡◌, ◌+◌, ◌-◌, length, drop, add-one, arith}
-use Rattle.leaf_clock.specs.Times.{colon_at}
+use Rattle.std.proofs.Common.{add-one, arith}
 use Rattle.leaf_clock.proofs.Colon.{colon-on, colon-off, colon-end}
 use Rattle.leaf_clock.proofs.colon_at.Goals as goal
 

@@ -1,7 +1,6 @@
 -- `leaf_clock::colon_at` meets its contract. Assumes nothing.
-use Rattle.std.proofs.Common.{◌≡◌, ◌+◌, ◌-◌, length, drop, add-one, arith}
+use Rattle.std.proofs.Common.{◌≡◌, ◌+◌, ◌-◌, length, drop}
 use Rattle.leaf_clock.specs.Times.{colon_at}
-use Rattle.leaf_clock.proofs.Colon.{colon-on, colon-off, colon-end}
 use Rattle.leaf_clock.proofs.colon_at.Given as goal
 
 abbrev pub invariant-loop-i : goal.invariant-loop-i

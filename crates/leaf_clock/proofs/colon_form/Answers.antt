@@ -1,5 +1,5 @@
 -- `leaf_clock::colon_form` meets its contract. Assumes nothing.
-use Rattle.std.proofs.Common.{sym, ◌∙◌, arith, rules}
+use Rattle.std.proofs.Common.{sym, ◌∙◌, arith}
 use Rattle.leaf_clock.proofs.Colon.{hour-le, no-hours, many-hours, no-minutes, many-minutes, both}
 use Rattle.leaf_clock.proofs.colon_form.Goals as goal
 

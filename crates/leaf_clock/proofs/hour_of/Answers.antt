@@ -1,5 +1,5 @@
 -- `leaf_clock::hour_of` meets its contract. Assumes nothing.
-use Rattle.std.proofs.Common.{sym, refl, ◌∙◌, rules}
+use Rattle.std.proofs.Common.{sym, refl, ◌∙◌}
 use Rattle.leaf_clock.specs.Times.{hour_of}
 use Rattle.leaf_clock.proofs.Choice.{chosen, passed}
 use Rattle.leaf_clock.proofs.hour_of.Goals as goal

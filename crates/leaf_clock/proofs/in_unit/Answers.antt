@@ -1,5 +1,5 @@
 -- `leaf_clock::in_unit` meets its contract. Assumes nothing.
-use Rattle.std.proofs.Common.{ℕ, ◌*◌, ap, ◌∙◌, rules}
+use Rattle.std.proofs.Common.{ℕ, ◌*◌, ap, ◌∙◌}
 use lib.Ieee.{of_bits, of_int}
 use Rattle.leaf_clock.specs.Times.{in_unit, morning, afternoon}
 use Rattle.leaf_clock.specs.declared.Time.TheVariants.{Seconds}

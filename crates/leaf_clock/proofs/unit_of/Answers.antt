@@ -1,5 +1,5 @@
 -- `leaf_clock::unit_of` meets its contract. Assumes nothing.
-use Rattle.std.proofs.Common.{ap, ◌∙◌, rules}
+use Rattle.std.proofs.Common.{ap, ◌∙◌}
 use Rattle.leaf_clock.specs.Times.{unit_words, named}
 use Rattle.leaf_clock.proofs.Units.{unit-absent, unit-named}
 use Rattle.leaf_clock.proofs.unit_of.Goals as goal

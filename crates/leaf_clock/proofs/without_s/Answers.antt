@@ -1,5 +1,5 @@
 -- `leaf_clock::without_s` meets its contract. Assumes nothing.
-use Rattle.std.proofs.Common.{ℕ, List, sym, refl, ap, ◌∙◌, arith, rules}
+use Rattle.std.proofs.Common.{ℕ, List, sym, refl, ap, ◌∙◌, arith}
 use Rattle.leaf_letters.specs.Words.{spelled}
 use Rattle.leaf_clock.specs.Times.{word_s, without_s}
 use Rattle.leaf_clock.proofs.Choice.{chosen, passed}
