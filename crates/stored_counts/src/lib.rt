@@ -1,5 +1,6 @@
 // The counts of the records read back by value, from the words that a reading filled; and whether a record has room there.
 #![tactic(auto)]
+
 ghost use Rattle.std.specs.Prelude.{◌≡◌, List, ◌++◌, ℕ, length, drop};
 ghost use Rattle.scope.specs.Records.{Network, counts_of};
 ghost use Rattle.scope.specs.Tables.{tally_words};

@@ -1,5 +1,6 @@
 // Nodes, links, rules and their clauses read back by value from the two tables that a reading filled.
 #![tactic(auto)]
+
 ghost use Rattle.std.specs.Prelude.{◌≡◌, List, ◌+◌, ◌≤◌, ◌<◌, Float, length, get_or};
 ghost use Rattle.scope.specs.Records.{Network, no_node, no_link, no_rule, no_clause};
 ghost use Rattle.scope.specs.Sections.{room_nodes, room_links, room_rules, room_clauses};

@@ -1,5 +1,6 @@
 // A name, a place and an amount read back from their words.
 #![tactic(auto)]
+
 ghost use Rattle.std.specs.Prelude.{◌≡◌};
 ghost use Rattle.stored_words.specs.Words.{span_from, field_from, found_from, amount_from};
 

@@ -1,5 +1,6 @@
 // A name looked up among the records of its kind; and of which kind a record is.
 #![tactic(auto)]
+
 ghost use Rattle.std.specs.Prelude.{◌≡◌, List, ℕ, ◌+◌, ◌≤◌, ◌<◌, length, get_or};
 ghost use Rattle.leaf_fields.specs.Fields.{Name, part};
 ghost use Rattle.leaf_letters.specs.Words.{same};

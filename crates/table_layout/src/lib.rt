@@ -1,6 +1,7 @@
 // Every number of the tables' layout, by its name. Each function answers the definition's number, so the layout of the code (crates/table_rows/src) is that of the definitions
 // (crates/scope/specs/Layout.antt). The program layout prints them.
 #![tactic(auto)]
+
 ghost use Rattle.std.specs.Prelude.{◌≡◌};
 ghost use Rattle.table_layout.specs.Places.{region_at, region_width, region_most, numbers_at, numbers_width, room_long, count_place, node_word_place};
 ghost use Rattle.table_layout.specs.Places.{node_number_place, link_word_place, link_number_place, series_place, rule_word_place, clause_word_place, inner_place};

@@ -6,7 +6,6 @@ use Rattle.stored_records.specs.Back.{rule_back}
 use Rattle.stored_counts.proofs.RoomLaws.{room-is}
 use Rattle.stored_records.proofs.PastLaws.{past_words}
 use Rattle.scope.specs.Sections.{room_rules}
-use borrow.Author.Rules.{rules}
 use Rattle.stored_records.proofs.rule_at.Goals as goal
 
 pub rule_row-requires : goal.rule_row-requires

@@ -3,7 +3,6 @@ use Prim.Native.Nat.{◌+◌, ◌*◌}
 use Rattle.scope.specs.Layout.{rules_at, rules_width}
 use mathlib.Core.Path.{◌∙◌}
 use Rattle.stored_records.proofs.BackLaws.{rule-is, span-first}
-use borrow.Author.Rules.{rules}
 use Rattle.stored_records.proofs.rule_row.Goals as goal
 
 pub returns : goal.returns

@@ -15,8 +15,8 @@ returns-then-n-name c = λ n r. other_length r c.args.name.now (λ e. omega (ari
 
 pub returns-then-n-le8 : goal.returns-then-n-le8
 returns-then-n-le8 c =
-    λ n r. key-tells r c.args.name.now (λ i. omega (arith, c.shared_slice_known-1.given i))
-    (λ i. omega (arith, c.shared_slice_known-3-1.given i)) (omega (arith, c.requires.1)) (omega arith) (omega arith)
+    λ n r. key-tells r c.args.name.now (λ i. omega (arith, c.type_inv.text i))
+    (λ i. omega (arith, c.type_inv.name i)) (omega (arith, c.requires.1)) (omega arith) (omega arith)
 
 pub returns : goal.returns
 returns c = λ n r. c.equal.ensures ∙ ap (λ (l : List ℕ). same l c.args.name.now) (row-letters r)

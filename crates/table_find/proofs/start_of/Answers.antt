@@ -1,7 +1,6 @@
 -- `table_find::start_of` meets its contract. Assumes nothing.
 use native.Mathlib.Omega.{arith}
 use Rattle.table_find.proofs.FindLaws.{nodes-start, links-start, curves-start, patterns-start, rules-start}
-use borrow.Author.Rules.{rules}
 use Rattle.table_find.proofs.start_of.Goals as goal
 
 pub returns-in-Nodes : goal.returns-in-Nodes

@@ -1,7 +1,7 @@
 -- `table_find::walk_rows` meets its contract. Assumes nothing.
-use Prim.Native.Nat.{◌-◌, ◌<◌}
+use Prim.Native.Nat.{◌<◌}
 use native.Mathlib.Omega.{arith}
-use Rattle.table_find.proofs.WalkLaws.{Searched, start-search, next-search, found-search, none-search, row_inside, some-row}
+use Rattle.table_find.proofs.WalkLaws.{start-search, next-search, found-search, none-search, row_inside, some-row}
 use Rattle.table_find.proofs.walk_rows.Goals as goal
 
 pub loop-i-init : goal.loop-i-init

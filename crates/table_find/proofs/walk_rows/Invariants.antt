@@ -1,7 +1,6 @@
 -- `table_find::walk_rows` meets its contract. Assumes nothing.
-use Prim.Native.Nat.{◌-◌, ◌<◌}
-use native.Mathlib.Omega.{arith}
-use Rattle.table_find.proofs.WalkLaws.{Searched, start-search, next-search, found-search, none-search, row_inside, some-row}
+use Prim.Native.Nat.{◌-◌}
+use Rattle.table_find.proofs.WalkLaws.{Searched}
 use Rattle.table_find.proofs.walk_rows.Given as goal
 
 abbrev pub invariant-loop-i : goal.invariant-loop-i

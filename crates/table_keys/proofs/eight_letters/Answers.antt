@@ -13,11 +13,11 @@ four_letters-requires c = omega (arith, length-take 4 c.args.b.now, c.requires)
 
 pub overflow_mul-result : goal.overflow_mul-result
 overflow_mul-result c =
-    omega (arith, first_fits c.args.b.now c.requires (λ i. (c.shared_slice_known-1.given i).fits) _ c.four_letters.ensures)
+    omega (arith, first_fits c.args.b.now c.requires (λ i. (c.type_inv.b i).fits) _ c.four_letters.ensures)
 
 pub overflow_add-result : goal.overflow_add-result
 overflow_add-result c =
-    let h : Bytes c.args.b.now = λ i. (c.shared_slice_known-1.given i).fits in
+    let h : Bytes c.args.b.now = λ i. (c.type_inv.b i).fits in
     omega (
       arith,
       first_fits c.args.b.now c.requires h _ c.four_letters.ensures,
@@ -26,4 +26,4 @@ overflow_add-result c =
 
 pub returns : goal.returns
 returns c =
-    eight-packed c.args.b.now c.requires (λ i. (c.shared_slice_known-1.given i).fits) _ c.four_letters-2.ensures _ c.four_letters.ensures
+    eight-packed c.args.b.now c.requires (λ i. (c.type_inv.b i).fits) _ c.four_letters-2.ensures _ c.four_letters.ensures

@@ -21,7 +21,7 @@ overflow_sub-text c = starts-inside _ _ _ (λ e. c.if-n-eq0.false (ap length c.l
 pub returns-then-text-at-ge8 : goal.returns-then-text-at-ge8
 returns-then-text-at-ge8 c =
     let a = c.args in
-    key-shifted a.text.now a.name.at (omega arith) (λ i. (c.shared_slice_known-1.given i).fits) a.name.end _ _
+    key-shifted a.text.now a.name.at (omega arith) (λ i. (c.type_inv.text i).fits) a.name.end _ _
     (ap length c.letters_of-l.ensures) (omega arith) c.eight_letters.ensures
 
 pub returns : goal.returns

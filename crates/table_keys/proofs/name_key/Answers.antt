@@ -14,11 +14,11 @@ pub bounds-l-i : goal.bounds-l-i
 bounds-l-i c = omega arith
 
 pub overflow_cast-k : goal.overflow_cast-k
-overflow_cast-k c = omega (arith, c.shared_slice_known-in-loop-i-1.given c.loop-i.i)
+overflow_cast-k c = omega (arith)
 
 pub overflow_add-k : goal.overflow_add-k
 overflow_add-k c =
-    omega (arith, pack-fits c.loop-i.invariant (get_or c.cut-l.result.now c.loop-i.i 0) (omega arith) (omega (arith, c.shared_slice_known-in-loop-i-1.given c.loop-i.i)))
+    omega (arith, pack-fits c.loop-i.invariant (get_or c.cut-l.result.now c.loop-i.i 0) (omega arith) (omega (arith)))
 
 pub overflow_add-i : goal.overflow_add-i
 overflow_add-i c = omega arith
@@ -27,7 +27,7 @@ pub loop-i-smaller : goal.loop-i-smaller
 loop-i-smaller c = omega arith
 
 pub loop-i-preserved : goal.loop-i-preserved
-loop-i-preserved c = pack-next c.loop-i.invariant (omega arith) (omega (arith, c.shared_slice_known-in-loop-i-1.given c.loop-i.i))
+loop-i-preserved c = pack-next c.loop-i.invariant (omega arith) (omega (arith))
 
 pub returns : goal.returns
 returns c = pack-end c.loop-i.invariant c.args.name.now (omega arith) c.cut-l.ensures
