@@ -1,5 +1,6 @@
 // Reads a line of TANKS: the fields in order, and what they say. Nothing is looked up or stored here.
 #![tactic(auto)]
+
 ghost use Rattle.std.specs.Prelude.{◌≡◌};
 ghost use Rattle.leaf_fields.specs.Fields.{fields_at, name_in, Fits};
 ghost use Rattle.scope.specs.Nodes.{tank_of, levels_of, curve_in, overflow_in};
