@@ -1,6 +1,7 @@
 // Closes a rule group: its stretch of text is read again, line by line, and each clause is stored as its line is read. Then the group is judged: its rule is stored, or its
 // clauses are erased again.
 #![tactic(auto)]
+
 ghost use Rattle.std.specs.Prelude.{◌≡◌, List, [], ◌∷◌, ℕ, ◌+◌, ◌-◌, ◌*◌, ◌≤◌, ◌<◌, min, length, Float};
 ghost use Rattle.scope.specs.declared.Counts.{Counts};
 ghost use Rattle.scope.specs.Records.{Network, Clause};

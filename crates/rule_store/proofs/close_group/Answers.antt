@@ -6,16 +6,15 @@ pub take_lines-read-requires : goal.take_lines-read-requires
 take_lines-read-requires c = c.requires
 
 pub store_group-requires : goal.store_group-requires
-store_group-requires c =
-    (
-      c.requires.m,
-      (read-good c.args.at c.args.first c.requires.holds c.take_lines-read.result _ _
-          (c.take_lines-read.ensures c.requires.m c.requires.holds) c.in-Good.q c.in-Good.is).0,
-      _,
-      _,
-      close-written c.args.at c.args.first c.requires.holds c.take_lines-read.result _ _ (c.take_lines-read.ensures c.requires.m c.requires.holds)
-          c.in-Good.q c.in-Good.is,
-    )
+store_group-requires c = (
+  c.requires.m,
+  (read-good c.args.at c.args.first c.requires.holds c.take_lines-read.result _ _
+      (c.take_lines-read.ensures c.requires.m c.requires.holds) c.in-Good.q c.in-Good.is).0,
+  _,
+  _,
+  close-written c.args.at c.args.first c.requires.holds c.take_lines-read.result _ _ (c.take_lines-read.ensures c.requires.m c.requires.holds)
+      c.in-Good.q c.in-Good.is,
+)
 
 pub returns-in-Good : goal.returns-in-Good
 returns-in-Good c =

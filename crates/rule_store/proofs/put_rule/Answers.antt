@@ -7,7 +7,6 @@ use Rattle.table_rows.specs.Table.{splice}
 use Rattle.scope.specs.Layout.{rules_at, rules_width}
 use Rattle.rule_groups.specs.Sketches.{rank_in}
 use Rattle.rule_store.proofs.GroupLaws.{rule-row}
-use borrow.Author.Rules.{rules}
 use Rattle.rule_store.proofs.put_rule.Goals as goal
 
 pub returns : goal.returns

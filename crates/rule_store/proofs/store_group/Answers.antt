@@ -3,7 +3,6 @@ use native.Mathlib.Omega.{arith}
 use Rattle.table_rows.proofs.HoldLaws.{bound-clauses}
 use Rattle.table_rows.proofs.AfterLaws.{holds-words, holds-numbers}
 use Rattle.rule_store.proofs.GroupLaws.{judge-asked, group-rules, group-clauses, group-stored, group-refused}
-use borrow.Author.Rules.{rules}
 use Rattle.rule_store.proofs.store_group.Goals as goal
 
 pub judge_group-answer-requires : goal.judge_group-answer-requires

@@ -1,13 +1,10 @@
 -- `rule_store::take_lines` meets its contract. Assumes nothing.
 use mathlib.Core.Path.{sym, ◌∙◌}
 use native.Mathlib.Omega.{arith}
-use lib.ListN.{length}
-use Rattle.scope.specs.Records.{Network}
-use Rattle.read_headers.specs.Own.{group_fields}
 use Rattle.table_rows.proofs.HoldLaws.{bound-clauses}
 use Rattle.table_rows.proofs.AfterLaws.{holds-words, holds-numbers}
 use Rattle.rule_store.proofs.GoingLaws.{falls}
-use Rattle.rule_store.proofs.GroupLaws.{Started, started, Taking, taking-start, taking-words, taking-end, taking-on, taking-bad}
+use Rattle.rule_store.proofs.GroupLaws.{started, taking-start, taking-words, taking-end, taking-on, taking-bad}
 use Rattle.rule_store.proofs.take_lines.Goals as goal
 
 pub loop-line-init : goal.loop-line-init
@@ -51,24 +48,24 @@ loop-line-smaller c =
 pub loop-line-preserved : goal.loop-line-preserved
 loop-line-preserved c =
     λ m st. taking-on (c.loop-line.invariant m st) _ (c.next_own-own.ensures.line _ c.in-Line.is) c.own_bytes.result.now
-    c.own_bytes.ensures st.links-are c.read_line-read.result c.read_line-read.ensures.0 c.read_line-read.ensures.1 st.base-is _ _
+    c.own_bytes.ensures st.links-are c.read_line-read.result c.read_line-read.ensures.result_value c.read_line-read.ensures.line_fits st.base-is _ _
     c.put_line.ensures c.see-seen.result c.see-seen.ensures _ c.in-Good.is
 
 pub erase_clauses-requires : goal.erase_clauses-requires
 erase_clauses-requires c =
     let t = c.loop-line.invariant c.requires.m (started c.requires.holds) in
-    (bound-clauses c.requires.holds, c.put_line.auto.1.1.1.0 ∙ holds-words t.held, c.put_line.auto.1.1.1.1.0 ∙ holds-numbers t.held)
+    (bound-clauses c.requires.holds, c.put_line.auto.words ∙ holds-words t.held, c.put_line.auto.numbers ∙ holds-numbers t.held)
 
 pub shape_of-words-in-Refused : goal.shape_of-words-in-Refused
 shape_of-words-in-Refused c =
-    c.erase_clauses.auto.1.1.0 ∙ c.put_line.auto.1.1.1.0 ∙ holds-words (c.loop-line.invariant c.requires.m (started c.requires.holds)).held ∙ sym (holds-words c.requires.holds)
+    c.erase_clauses.auto.words ∙ c.put_line.auto.words ∙ holds-words (c.loop-line.invariant c.requires.m (started c.requires.holds)).held ∙ sym (holds-words c.requires.holds)
 
 pub shape_of-numbers-in-Refused : goal.shape_of-numbers-in-Refused
 shape_of-numbers-in-Refused c =
-    c.erase_clauses.auto.1.1.1.0 ∙ c.put_line.auto.1.1.1.1.0 ∙ holds-numbers (c.loop-line.invariant c.requires.m (started c.requires.holds)).held ∙ sym (holds-numbers c.requires.holds)
+    c.erase_clauses.auto.numbers ∙ c.put_line.auto.numbers ∙ holds-numbers (c.loop-line.invariant c.requires.m (started c.requires.holds)).held ∙ sym (holds-numbers c.requires.holds)
 
 pub returns-in-Refused : goal.returns-in-Refused
 returns-in-Refused c =
     λ m h. let st = started h in taking-bad (c.loop-line.invariant m st) _ (c.next_own-own.ensures.line _ c.in-Line.is)
-    c.own_bytes.result.now c.own_bytes.ensures st.links-are c.read_line-read.result c.read_line-read.ensures.0 c.read_line-read.ensures.1
+    c.own_bytes.result.now c.own_bytes.ensures st.links-are c.read_line-read.result c.read_line-read.ensures.result_value c.read_line-read.ensures.line_fits
     st.base-is _ _ c.put_line.ensures c.see-seen.result c.see-seen.ensures _ c.in-Refused.is (λ cs. c.erase_clauses.ensures c.args.text.now m _ _ _ cs h st.base-is)

@@ -1,13 +1,8 @@
 -- `rule_store::take_lines` meets its contract. Assumes nothing.
-use mathlib.Core.Path.{sym, ◌∙◌}
-use native.Mathlib.Omega.{arith}
 use lib.ListN.{length}
 use Rattle.scope.specs.Records.{Network}
 use Rattle.read_headers.specs.Own.{group_fields}
-use Rattle.table_rows.proofs.HoldLaws.{bound-clauses}
-use Rattle.table_rows.proofs.AfterLaws.{holds-words, holds-numbers}
-use Rattle.rule_store.proofs.GoingLaws.{falls}
-use Rattle.rule_store.proofs.GroupLaws.{Started, started, Taking, taking-start, taking-words, taking-end, taking-on, taking-bad}
+use Rattle.rule_store.proofs.GroupLaws.{Started, Taking}
 use Rattle.rule_store.proofs.take_lines.Given as goal
 
 abbrev pub invariant-loop-line : goal.invariant-loop-line
