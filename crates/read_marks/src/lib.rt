@@ -1,5 +1,6 @@
 // The classes and the reasons of the lines, in the bytes that the caller lends: a line marked, a closed group filled back, the classes counted.
 #![tactic(auto)]
+
 ghost use Rattle.std.specs.Prelude.{◌≡◌, true, false, cond, ◌-◌, ◌≤◌, ◌<◌, length, take, set, replicate, eqb};
 ghost use Rattle.scope_lines.specs.Tables.{swapped, refilled, count_in};
 ghost use Rattle.read_marks.specs.Counted.{counted};

@@ -1,5 +1,6 @@
 // Lines one after another that are stored at once, or join their group, as most lines do. What a reading carries stays where it is meanwhile: each section has a loop of its own.
 #![tactic(auto)]
+
 ghost use Rattle.std.specs.Prelude.{◌≡◌, true, false, List, ℕ, ◌≤◌, length, Float};
 ghost use Rattle.scope_lines.specs.Reader.{step};
 ghost use Rattle.scope.specs.Sections.{is_rules, room_text};

@@ -1,5 +1,6 @@
 // One line of a text: what it does to a reading, and to the tables that the caller lends.
 #![tactic(auto)]
+
 ghost use Rattle.std.specs.Prelude.{◌≡◌, true, false, cond, ◌+◌, ◌<◌, drop};
 ghost use Rattle.leaf_scans.specs.Lines.{line_len};
 ghost use Rattle.scope_lines.specs.Reader.{step, closes, shut};

@@ -1,5 +1,6 @@
 // What is judged before a text's lines are read, and what is written after them, for both readings: the room of the tables, the bytes of the text, the counts.
 #![tactic(auto)]
+
 ghost use Rattle.std.specs.Prelude.{◌≡◌, true, false, cond, ◌≤◌, ◌<◌, length, ltb};
 ghost use Rattle.scope.specs.Tables.{tally_words};
 ghost use Rattle.scope.specs.Layout.{record_words, room_words};

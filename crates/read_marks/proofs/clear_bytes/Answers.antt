@@ -1,10 +1,10 @@
 -- `read_strict::clear_bytes` meets its contract: the bytes before `i` are 0. Assumes nothing.
-use Prim.Native.Nat.{ℕ, ◌≤◌, ◌-◌}
+use Prim.Native.Nat.{ℕ}
 use native.Mathlib.Omega.{arith}
 use borrow.Author.Fill.{fill_more}
 use mathlib.Core.Path.{◌≡◌, refl, ◌∙◌}
-use mathlib.Core.List.{List, ◌++◌, append-nil}
-use lib.ListN.{length, drop, replicate, length-set}
+use mathlib.Core.List.{List, append-nil}
+use lib.ListN.{length, replicate, length-set}
 use lib.Seq.{drop-length}
 use Rattle.read_marks.proofs.clear_bytes.Goals as goal
 

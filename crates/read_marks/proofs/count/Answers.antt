@@ -1,10 +1,6 @@
 -- `read_marks::count` meets its contract. Assumes nothing.
-use Prim.Native.Nat.{◌+◌, ◌-◌}
 use native.Mathlib.Omega.{arith}
 use native.Mathlib.Numerals.{add-one}
-use mathlib.Core.Path.{◌≡◌}
-use lib.ListN.{length, drop}
-use Rattle.scope_lines.specs.Tables.{count_in}
 use Rattle.scope_lines.proofs.Marks.{count_at, count-end, count-le}
 use Rattle.read_marks.proofs.count.Goals as goal
 

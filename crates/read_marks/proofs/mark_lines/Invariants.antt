@@ -1,10 +1,8 @@
 -- `read_marks::mark_lines` meets its contract: the lines before number i are marked. Assumes nothing.
 use Prim.Native.Nat.{◌-◌, ◌≤◌}
-use native.Mathlib.Omega.{arith}
-use mathlib.Core.Path.{◌≡◌, refl, ap, ◌∙◌}
-use lib.ListN.{length, set, length-set}
+use mathlib.Core.Path.{◌≡◌}
+use lib.ListN.{length}
 use Rattle.read_marks.specs.Filled.{filled}
-use Rattle.read_marks.proofs.FilledLaws.{filled_more, filled_none}
 use Rattle.read_marks.proofs.mark_lines.Given as goal
 
 abbrev pub invariant-loop-i : goal.invariant-loop-i

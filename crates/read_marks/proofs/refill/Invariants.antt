@@ -1,10 +1,8 @@
 -- `read_marks::refill` meets its contract. Assumes nothing.
 use Prim.Native.Nat.{◌-◌, ◌≤◌}
-use native.Mathlib.Omega.{arith}
-use mathlib.Core.Path.{◌≡◌, refl, ap, ◌∙◌}
-use lib.ListN.{length, set, get_or, length-set}
-use Rattle.scope_lines.specs.Tables.{refilled, swapped}
-use Rattle.scope_lines.proofs.Marks.{refilled-none, refilled-more}
+use mathlib.Core.Path.{◌≡◌}
+use lib.ListN.{length}
+use Rattle.scope_lines.specs.Tables.{refilled}
 use Rattle.read_marks.proofs.refill.Given as goal
 
 abbrev pub invariant-loop-i : goal.invariant-loop-i

@@ -1,15 +1,13 @@
 -- `read_runs::file_lines` meets its contract. Assumes nothing.
-use Prim.Native.Nat.{◌-◌}
 use native.Mathlib.Omega.{arith}
 use mathlib.Core.Path.{sym, ap, ◌∙◌}
-use lib.ListN.{length}
 use lib.Seq.{length-take-le}
 use Rattle.leaf_scans.proofs.LineLaws.{end-le, end_more}
 use Rattle.table_rows.proofs.AfterLaws.{holds-words, holds-numbers}
 use Rattle.read_steps.proofs.StepLaws.{sound}
 use Rattle.read_steps.specs.declared.State.{State}
 use Rattle.read_runs.proofs.FiledLaws.{end-inside}
-use Rattle.read_runs.proofs.OnwardLaws.{Come, fits, begin, came-to-end, not-data, stored, unstored}
+use Rattle.read_runs.proofs.OnwardLaws.{fits, begin, came-to-end, not-data, stored, unstored}
 use Rattle.read_runs.proofs.file_lines.Goals as goal
 
 pub loop-t-init : goal.loop-t-init
@@ -53,20 +51,19 @@ loop-t-preserved c =
     let loop = c.loop-t in
     let if1 = c.loop-t-test in
     let Store-Line = c.store_line-kept in
-    let kept = c.kept-1 in
     let q = pre in
     let z = line-ends.ensures in
     let d = sym is-data.ensures ∙ if2.true in
     let g = loop.invariant in
     let h = if1.true in
-    stored g h z.0 q.1 q.2 q.3 z.1 d Store-Line.ensures kept.given.1 c.moved-t.ensures
+    stored g h z.0 q.1 q.2 q.3 z.1 d Store-Line.ensures c.in-Stored.is c.moved-t.ensures
 
 pub shape_of-words-in-Refused : goal.shape_of-words-in-Refused
 shape_of-words-in-Refused c =
     let Store-Line = c.store_line-kept in
     let loop = c.loop-t in
     let pre = c.requires in
-    Store-Line.auto.1.1.1.1.1.0
+    Store-Line.auto.words
     ∙ holds-words loop.invariant.ready.stands.recs
     ∙ sym (holds-words pre.0.stands.recs)
 
@@ -75,7 +72,7 @@ shape_of-numbers-in-Refused c =
     let Store-Line = c.store_line-kept in
     let loop = c.loop-t in
     let pre = c.requires in
-    Store-Line.auto.1.1.1.1.1.1.0
+    Store-Line.auto.numbers
     ∙ holds-numbers loop.invariant.ready.stands.recs
     ∙ sym (holds-numbers pre.0.stands.recs)
 
@@ -88,13 +85,12 @@ returns-in-Refused c =
     let loop = c.loop-t in
     let if1 = c.loop-t-test in
     let Store-Line = c.store_line-kept in
-    let kept2 = c.kept-in-Refused-1 in
     let q = pre in
     let z = line-ends.ensures in
     let d = sym is-data.ensures ∙ if2.true in
     let g = loop.invariant in
     let h = if1.true in
-    unstored g h z.0 q.1 q.2 q.3 z.1 d Store-Line.ensures kept2.given.1 c.reason_number.ensures
+    unstored g h z.0 q.1 q.2 q.3 z.1 d Store-Line.ensures c.in-Refused.is c.reason_number.ensures
 
 pub shape_of-words-else-is_data : goal.shape_of-words-else-is_data
 shape_of-words-else-is_data c =

@@ -4,7 +4,6 @@ use Rattle.scope.specs.Sections.{is_rules}
 use Rattle.read_headers.specs.Sections.{passes_over}
 use Rattle.read_runs.specs.Onward.{none}
 use Rattle.read_runs.proofs.OnwardLaws.{left-unstored}
-use borrow.Author.Rules.{rules}
 use Rattle.read_runs.proofs.plain_lines.Goals as goal
 
 pub join_lines-requires : goal.join_lines-requires

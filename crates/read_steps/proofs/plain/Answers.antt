@@ -1,6 +1,5 @@
 -- `read_steps::plain` meets its contract. Assumes nothing.
 use mathlib.Core.Path.{sym, ◌∙◌}
-use borrow.Author.Rules.{rules}
 use Rattle.read_steps.proofs.plain.Goals as goal
 
 pub returns-then-in_rules : goal.returns-then-in_rules

@@ -1,11 +1,7 @@
 -- `read_text::all_low` meets its contract. Assumes nothing.
-use Prim.Native.Nat.{◌-◌}
 use native.Mathlib.Omega.{arith}
 use native.Mathlib.Numerals.{add-one}
-use mathlib.Core.Path.{◌≡◌, refl, sym, ◌∙◌}
-use mathlib.Core.Bool.{false, cond}
-use lib.ListN.{length, drop}
-use Rattle.scope.specs.Reading.{all_low}
+use mathlib.Core.Path.{refl, sym, ◌∙◌}
 use Rattle.read_text.proofs.LowLaws.{low_step, low_end}
 use Rattle.read_text.proofs.all_low.Goals as goal
 

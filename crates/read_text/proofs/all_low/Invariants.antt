@@ -1,12 +1,9 @@
 -- `read_text::all_low` meets its contract. Assumes nothing.
 use Prim.Native.Nat.{◌-◌}
-use native.Mathlib.Omega.{arith}
-use native.Mathlib.Numerals.{add-one}
-use mathlib.Core.Path.{◌≡◌, refl, sym, ◌∙◌}
+use mathlib.Core.Path.{◌≡◌}
 use mathlib.Core.Bool.{false, cond}
 use lib.ListN.{length, drop}
 use Rattle.scope.specs.Reading.{all_low}
-use Rattle.read_text.proofs.LowLaws.{low_step, low_end}
 use Rattle.read_text.proofs.all_low.Given as goal
 
 abbrev pub invariant-loop-i : goal.invariant-loop-i

@@ -9,8 +9,5 @@ slice_bounds-paste_words-end c = refl
 pub paste_words-requires : goal.paste_words-requires
 paste_words-requires c = omega (arith, c.requires)
 
-pub shape_of-words : goal.shape_of-words
-shape_of-words c = c.paste_words.auto.0
-
 pub returns : goal.returns
 returns c = c.paste_words.ensures
