@@ -1,5 +1,6 @@
 // The leaves that a Rust program links, to compare them with the Rust readers: each hands out document 01's number, and writes the value.
 #![tactic(auto)]
+
 ghost use Rattle.std.specs.Prelude.{◌≡◌};
 ghost use Rattle.leaf_decimals.specs.Numbers.{number_of, number_answer};
 ghost use Rattle.leaf_counts.specs.Counts.{count_of, count_answer};

@@ -2,7 +2,6 @@
 use mathlib.Core.Path.{◌≡◌, refl, ap, sym, ◌∙◌, subst}
 use mathlib.Core.Bool.{Bool, true, false, cond, false≢true}
 use mathlib.Core.List.{List, [], ◌∷◌, ◌++◌, append-nil}
-use Prim.Native.Nat.{◌+◌}
 use Rattle.scope_lines.specs.Reader.{Sort, empty, heading, start, other, Verdict, good, bad, Stored, over, judged, Reader, Standing, standing, Still}
 use Rattle.scope_lines.specs.Reader.{is_blank, is_header, is_passed, still_class, Reply, accepted, Fate, unclosed, approved, rejected, itself, last, fresh}
 use Rattle.scope_lines.specs.Reader.{Outcome, still, filed, joins, closes, settle, fate_of, group_class, if_open, of_stored, next, unless, stop_at, fate_at}
