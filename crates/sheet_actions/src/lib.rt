@@ -1,5 +1,6 @@
 // What one clause adds to the counts of closings, openings, activations and settings.
 #![tactic(auto)]
+
 ghost use Rattle.std.specs.Prelude.{◌≡◌, ◌&&◌, ◌-◌};
 ghost use Rattle.scope.specs.Sections.{room_clauses};
 ghost use Rattle.sheet_actions.specs.Steps.{is_branch, is_at, Few, with_status, with_move, with_clause};

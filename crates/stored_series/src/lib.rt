@@ -1,5 +1,6 @@
 // Curves, patterns, demands and times read back by value from the two tables that a reading filled.
 #![tactic(auto)]
+
 ghost use Rattle.std.specs.Prelude.{◌≡◌, List, ◌≤◌, ◌<◌, Float, length, get_or};
 ghost use Rattle.std.proofs.Math.Option.{none};
 ghost use Rattle.scope.specs.Records.{Network, no_name, no_demand, no_point, no_multiplier};
