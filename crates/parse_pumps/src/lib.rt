@@ -1,5 +1,6 @@
 // Reads the pairs of a line of PUMPS, each a word and its value, after the names with which it starts. Nothing is looked up or stored here.
 #![tactic(auto)]
+
 ghost use Rattle.leaf_fields.specs.Fields.{fields_at, name_in, Fits};
 ghost use Rattle.scope.specs.Links.{no_pump, with_pair, pump_from};
 ghost use Rattle.parse_fields.specs.Taking.{MayFit};

@@ -1,10 +1,8 @@
 -- A line of VALVES that lacks a name; the type and the setting of a valve. Assumes nothing.
 use Prim.Native.Nat.{ℕ, ◌<◌}
 use mathlib.Core.Path.{◌≡◌, refl, subst}
-use mathlib.Core.List.{List, [], ◌∷◌}
+use mathlib.Core.List.{List}
 use lib.ListN.{length}
-use types.Run.{OneOf, miss}
-use denote.Enum.Declared.{tag_of}
 use Rattle.leaf_fields.specs.Fields.{Name, fields_at, Next}
 use Rattle.leaf_fields.specs.declared.Field.{Field}
 use Rattle.leaf_fields.specs.declared.Field.TheVariants.{Taken, Nothing}
@@ -12,7 +10,6 @@ use Rattle.leaf_fields.specs.declared.Span.{Span}
 use Rattle.scope.specs.declared.Reason.TheVariants.{Missing}
 use Rattle.scope.specs.declared.ValveType.{ValveType}
 use Rattle.scope.specs.declared.ValveType.TheVariants.{Gpv, Tcv, Fcv, Prv, Psv, Pbv, Pcv}
-use Rattle.scope.specs.contracts.ValveType.{the_type}
 use Rattle.scope.specs.Records.{zero_f}
 use Rattle.scope.specs.Values.{bad, Took, swallowed_from}
 use Rattle.scope.specs.Links as scope
@@ -49,9 +46,9 @@ curve-set s e n q =
     (rw (e, h), k)
 
 -- any other type a number
-pub number-set : (t : ValveType) (fs : List Name) → OneOf (1 ∷ 2 ∷ 3 ∷ 4 ∷ 5 ∷ 6 ∷ []) (tag_of the_type t) → setting_from t fs ≡ setting_took (swallowed_from zero_f fs)
+pub number-set : (t : ValveType) (fs : List Name) → (t ≡ Gpv → ⊥) → setting_from t fs ≡ setting_took (swallowed_from zero_f fs)
 unfolding setting_from
-number-set Gpv fs h = absurd (miss (1 ∷ 2 ∷ 3 ∷ 4 ∷ 5 ∷ 6 ∷ []) 0 tt h)
+number-set Gpv fs h = absurd (h refl)
 number-set Tcv fs h = refl
 number-set Fcv fs h = refl
 number-set Prv fs h = refl

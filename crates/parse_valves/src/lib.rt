@@ -1,5 +1,6 @@
 // Reads a line of VALVES: the fields in order, and what they say. Nothing is looked up or stored here.
 #![tactic(auto)]
+
 ghost use Rattle.std.specs.Prelude.{◌≡◌};
 ghost use Rattle.leaf_fields.specs.Fields.{fields_at, name_in};
 ghost use Rattle.scope.specs.Links.{type_of, setting_from, valve_of};

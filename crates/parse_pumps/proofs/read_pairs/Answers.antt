@@ -1,25 +1,23 @@
 -- `parse_pumps::read_pairs` meets its contract. Assumes nothing.
 use mathlib.Core.Path.{◌≡◌, refl}
-use mathlib.Core.List.{◌∷◌}
+use Prim.Native.Nat.{ℕ}
+use mathlib.Core.List.{List, ◌∷◌}
+use Rattle.leaf_fields.specs.declared.Span.{Span}
+use Rattle.scope.specs.declared.Pump.{Pump}
+use Rattle.parse_fields.specs.Taking.{MayFit}
 use Rattle.leaf_fields.specs.Fields.{Fits, fields_at, name_in}
-use lib.ListN.{length}
 use lib.Ieee as Ieee
 use Rattle.scope.specs.Links.{with_pair}
 use Rattle.parse_pipes.specs.Lines.{pump_in}
 use Rattle.parse_pumps.specs.Lines.{PumpAs}
 use Rattle.parse_pumps.specs.declared.PumpRead.{PumpRead}
-use Rattle.parse_pumps.proofs.PumpLaws.{told-pump, Pairing, none_left, lone-left, fewer, one_more, pair-refused}
+use Rattle.parse_pumps.proofs.PumpLaws.{told-pump, none_left, lone-left, fewer, one_more, pair-refused}
 use Rattle.parse_pumps.proofs.read_pairs.Goals as goal
 
-pair : (c : tie.After-with-pair invariant-loop decreases-loop) {r : PumpRead} → c.with_pair.result ≡ r →
-    let c2 = c.before.before in
-    let c6 = c2.before.before.before.before in
-    let c9 = c6.before.before.before in
-    let l = c9.before.before.args.l.now in
-    PumpAs l (with_pair (pump_in l c9.loop.p) (name_in l c6.f.given.0.0) (name_in l c2.g.given.0.0)) r
-pair c e =
-    let c9 = c.before.before.before.before.before.before.before.before.before in
-    told-pump c9.before.before.args.l.now _ e (c.with_pair.ensures c9.loop.invariant.fits (value c.before).1)
+-- what the pair makes of the pump, once it is known which answer it is
+pair : (l : List ℕ) (p : Pump) (w v : Span) {q r : PumpRead} → (MayFit l p.head → Fits l v → PumpAs l (with_pair (pump_in l p) (name_in l w) (name_in l v)) q) → MayFit l p.head → Fits l v → q ≡ r
+    → PumpAs l (with_pair (pump_in l p) (name_in l w) (name_in l v)) r
+pair l p w v h own fit e = told-pump l _ e (h own fit)
 
 pub loop-word-init : goal.loop-word-init
 unfolding Ieee.of_bits
@@ -43,10 +41,10 @@ pub loop-word-preserved : goal.loop-word-preserved
 loop-word-preserved c =
     let word : let a = c.args in let l = a.l.now in (fields_at l c.loop-word.i ≡ name_in l c.in-Taken.word ∷ fields_at l c.in-Taken.word.end) × Fits l c.in-Taken.word = c.next_field-f.ensures.taken _ c.in-Taken.is in
     let value : let a = c.args in let l = a.l.now in (fields_at l c.in-Taken.word.end ≡ name_in l c.in-Taken-g.value ∷ fields_at l c.in-Taken-g.value.end) × Fits l c.in-Taken-g.value = c.next_field-g.ensures.taken _ c.in-Taken-g.is in
-    one_more c.loop-word.invariant (word).0 (value).0 _ (pair c c.in-Pairs.is)
+    one_more c.loop-word.invariant (word).0 (value).0 _ (pair c.args.l.now c.loop-word.p c.in-Taken.word c.in-Taken-g.value c.with_pair-q.ensures c.loop-word.invariant.fits (value).1 c.in-Pairs.is)
 
 pub returns-in-NoPump : goal.returns-in-NoPump
 returns-in-NoPump c =
     let word : let a = c.args in let l = a.l.now in (fields_at l c.loop-word.i ≡ name_in l c.in-Taken.word ∷ fields_at l c.in-Taken.word.end) × Fits l c.in-Taken.word = c.next_field-f.ensures.taken _ c.in-Taken.is in
     let value : let a = c.args in let l = a.l.now in (fields_at l c.in-Taken.word.end ≡ name_in l c.in-Taken-g.value ∷ fields_at l c.in-Taken-g.value.end) × Fits l c.in-Taken-g.value = c.next_field-g.ensures.taken _ c.in-Taken-g.is in
-    pair-refused c.loop-word.invariant (word).0 (value).0 (pair c c.in-NoPump.is)
+    pair-refused c.loop-word.invariant (word).0 (value).0 (pair c.args.l.now c.loop-word.p c.in-Taken.word c.in-Taken-g.value c.with_pair-q.ensures c.loop-word.invariant.fits (value).1 c.in-NoPump.is)

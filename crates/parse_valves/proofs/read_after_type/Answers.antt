@@ -29,7 +29,7 @@ returns-in_default-second c =
     λ fit. rw ((s1).0, told-number a.l.now c.take_swallowed-second.ensures c.in_default-second.is) (told-why c.reason_of.ensures c.in_default-second.is)
 
 pub returns : goal.returns
-unfolding valve_after_type Ieee.of_bits Ieee.of_bits
+unfolding valve_after_type Ieee.of_bits
 returns c =
     let s1 : let a = c.args in let l = a.l.now in (setting_from a.kind (fields_at l a.at) ≡ took (record { value = c.in-Setting.setting; curve = opt_in l c.in-Setting.own }) (fields_at l c.in-Setting.at2)) × MayFit l c.in-Setting.own = let a = c.args in
     let l = a.l.now in

@@ -18,11 +18,11 @@ unfolding Ieee.of_bits
 returns-in-Number c =
     let a = c.args in
     let l = a.l.now in
-    (rw (number-set a.kind (fields_at l a.at) c.in_default.keys2, told-number l c.take_swallowed-t.ensures c.in-Number.is), tt)
+    (rw (number-set a.kind (fields_at l a.at) c.in_default.not-Gpv, told-number l c.take_swallowed-t.ensures c.in-Number.is), tt)
 
 pub returns-in-NoNumber : goal.returns-in-NoNumber
 unfolding Ieee.of_bits
 returns-in-NoNumber c =
     let a = c.args in
     let l = a.l.now in
-    rw (number-set a.kind (fields_at l a.at) c.in_default.keys2, told-number l c.take_swallowed-t.ensures c.in-NoNumber.is)
+    rw (number-set a.kind (fields_at l a.at) c.in_default.not-Gpv, told-number l c.take_swallowed-t.ensures c.in-NoNumber.is)
