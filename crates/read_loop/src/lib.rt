@@ -1,5 +1,6 @@
 // Goes over the lines of a text: both readings are this one loop. Strict reading stops at the first piece that is refused; a survey goes on past it, and marks what each line is.
 #![tactic(auto)]
+
 ghost use Rattle.std.specs.Prelude.{◌≡◌, true, false, cond, ◌-◌, ◌≤◌, ◌<◌, length, set, eqb};
 ghost use Rattle.scope_lines.specs.Tables.{refilled};
 ghost use Rattle.scope.specs.Records.{no_network, counts_of};

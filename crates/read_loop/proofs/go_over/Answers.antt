@@ -1,12 +1,10 @@
 -- `read_loop::go_over` meets its contract. Assumes nothing.
-use Prim.Native.Nat.{◌-◌}
 use native.Mathlib.Omega.{arith}
 use mathlib.Core.Path.{sym, ◌∙◌}
-use lib.ListN.{length}
 use Rattle.table_rows.proofs.AfterLaws.{holds-words, holds-numbers}
 use Rattle.read_steps.proofs.StepLaws.{sound}
 use Rattle.read_runs.proofs.OnwardLaws.{fits, at_after}
-use Rattle.read_loop.proofs.AlongLaws.{Along, begin, plain-asks, plain-on, onward, turn-asks, turn_on, turn-stops, ended}
+use Rattle.read_loop.proofs.AlongLaws.{begin, plain-asks, plain-on, onward, turn-asks, turn_on, turn-stops, ended}
 use Rattle.read_loop.proofs.go_over.Goals as goal
 
 pub loop-s-init : goal.loop-s-init
@@ -29,7 +27,7 @@ turn_after-t-requires c =
     let o = c.plain_lines-plain.ensures in
     let k = c.mark_plain in
     let i = c.loop-s.invariant in
-    let g = plain-on i o.0 k.ensures k.auto.1.0 in
+    let g = plain-on i o.0 k.ensures k.auto.classes in
     (fits g.ready c.if-s-text.true, o.1)
 
 pub mark_turn-requires : goal.mark_turn-requires
@@ -37,7 +35,7 @@ mark_turn-requires c =
     let o = c.plain_lines-plain.ensures in
     let k = c.mark_plain in
     let i = c.loop-s.invariant in
-    let g = plain-on i o.0 k.ensures k.auto.1.0 in
+    let g = plain-on i o.0 k.ensures k.auto.classes in
     turn-asks g c.if-s-text.true c.turn_after-t.ensures
 
 pub shape_of-words-then-stops : goal.shape_of-words-then-stops
@@ -45,41 +43,41 @@ shape_of-words-then-stops c =
     let o = c.plain_lines-plain.ensures in
     let k = c.mark_plain in
     let i = c.loop-s.invariant in
-    let g = plain-on i o.0 k.ensures k.auto.1.0 in
+    let g = plain-on i o.0 k.ensures k.auto.classes in
     let t = c.turn_after-t in
-    t.auto.1.1.0 ∙ holds-words g.ready.stands.recs ∙ sym (holds-words c.requires.1)
+    t.auto.words ∙ holds-words g.ready.stands.recs ∙ sym (holds-words c.requires.1)
 
 pub shape_of-numbers-then-stops : goal.shape_of-numbers-then-stops
 shape_of-numbers-then-stops c =
     let o = c.plain_lines-plain.ensures in
     let k = c.mark_plain in
     let i = c.loop-s.invariant in
-    let g = plain-on i o.0 k.ensures k.auto.1.0 in
+    let g = plain-on i o.0 k.ensures k.auto.classes in
     let t = c.turn_after-t in
-    t.auto.1.1.1.0 ∙ holds-numbers g.ready.stands.recs ∙ sym (holds-numbers c.requires.1)
+    t.auto.numbers ∙ holds-numbers g.ready.stands.recs ∙ sym (holds-numbers c.requires.1)
 
 pub shape_of-classes-then-stops : goal.shape_of-classes-then-stops
 shape_of-classes-then-stops c =
     let o = c.plain_lines-plain.ensures in
     let k = c.mark_plain in
     let i = c.loop-s.invariant in
-    let g = plain-on i o.0 k.ensures k.auto.1.0 in
-    c.mark_turn.auto.1.0 ∙ g.long_c
+    let g = plain-on i o.0 k.ensures k.auto.classes in
+    c.mark_turn.auto.classes ∙ g.long_c
 
 pub shape_of-reasons-then-stops : goal.shape_of-reasons-then-stops
 shape_of-reasons-then-stops c =
     let o = c.plain_lines-plain.ensures in
     let k = c.mark_plain in
     let i = c.loop-s.invariant in
-    let g = plain-on i o.0 k.ensures k.auto.1.0 in
-    c.mark_turn.auto.1.1.0 ∙ g.long_r
+    let g = plain-on i o.0 k.ensures k.auto.classes in
+    c.mark_turn.auto.reasons ∙ g.long_r
 
 pub returns-then-stops : goal.returns-then-stops
 returns-then-stops c =
     let o = c.plain_lines-plain.ensures in
     let k = c.mark_plain in
     let i = c.loop-s.invariant in
-    let g = plain-on i o.0 k.ensures k.auto.1.0 in
+    let g = plain-on i o.0 k.ensures k.auto.classes in
     let t = c.turn_after-t in
     let h = c.if-s-text.true in
     let z = c.stops.ensures.0 c.if-stops.true in
@@ -90,7 +88,7 @@ loop-s-smaller-else-stops c =
     let o = c.plain_lines-plain.ensures in
     let k = c.mark_plain in
     let i = c.loop-s.invariant in
-    let g = plain-on i o.0 k.ensures k.auto.1.0 in
+    let g = plain-on i o.0 k.ensures k.auto.classes in
     let h = c.if-s-text.true in
     let l = at_after i.ready o.0 in
     omega (arith, h, l, onward g h c.turn_after-t.ensures)
@@ -100,11 +98,11 @@ loop-s-preserved-else-stops c =
     let o = c.plain_lines-plain.ensures in
     let k = c.mark_plain in
     let i = c.loop-s.invariant in
-    let g = plain-on i o.0 k.ensures k.auto.1.0 in
+    let g = plain-on i o.0 k.ensures k.auto.classes in
     let h = c.if-s-text.true in
     let go = c.turn_after-t.ensures in
     let k = c.mark_turn in
-    turn_on g h go (c.stops.ensures.1 c.if-stops.false) k.ensures.0 k.auto.1.0 k.ensures.1 k.auto.1.1.0
+    turn_on g h go (c.stops.ensures.1 c.if-stops.false) k.ensures.0 k.auto.classes k.ensures.1 k.auto.reasons
 
 pub loop-s-smaller : goal.loop-s-smaller
 loop-s-smaller c = omega (arith, c.loop-s-test.true, c.if-s-text.false)
@@ -113,14 +111,14 @@ pub loop-s-preserved : goal.loop-s-preserved
 loop-s-preserved c =
     let o = c.plain_lines-plain.ensures in
     let k = c.mark_plain in
-    plain-on c.loop-s.invariant o.0 k.ensures k.auto.1.0
+    plain-on c.loop-s.invariant o.0 k.ensures k.auto.classes
 
 pub resolve_pattern_indices-requires : goal.resolve_pattern_indices-requires
 resolve_pattern_indices-requires c = (_, sound c.loop-s.invariant.ready.stands)
 
 pub shape_of-words : goal.shape_of-words
 shape_of-words c =
-    c.resolve_pattern_indices.auto.1.1.0
+    c.resolve_pattern_indices.auto.words
     ∙ holds-words c.loop-s.invariant.ready.stands.recs
     ∙ sym (holds-words c.requires.1)
 

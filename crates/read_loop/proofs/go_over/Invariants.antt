@@ -1,12 +1,7 @@
 -- `read_loop::go_over` meets its contract. Assumes nothing.
 use Prim.Native.Nat.{◌-◌}
-use native.Mathlib.Omega.{arith}
-use mathlib.Core.Path.{sym, ◌∙◌}
 use lib.ListN.{length}
-use Rattle.table_rows.proofs.AfterLaws.{holds-words, holds-numbers}
-use Rattle.read_steps.proofs.StepLaws.{sound}
-use Rattle.read_runs.proofs.OnwardLaws.{fits, at_after}
-use Rattle.read_loop.proofs.AlongLaws.{Along, begin, plain-asks, plain-on, onward, turn-asks, turn_on, turn-stops, ended}
+use Rattle.read_loop.proofs.AlongLaws.{Along}
 use Rattle.read_loop.proofs.go_over.Given as goal
 
 abbrev pub invariant-loop-s : goal.invariant-loop-s
