@@ -1,5 +1,6 @@
 // The library for C and Rust: both readings over pointers and lengths. include/inp.h has what a caller must know.
 #![tactic(auto)]
+
 ghost use Rattle.std.specs.Prelude.{◌≡◌, length};
 ghost use Rattle.scope.specs.Reading.{strict_answer, strict_words, strict_numbers};
 ghost use Rattle.inp.specs.Calls.{number_of, counts_after, words_after, numbers_after, classes_after, reasons_after};

@@ -7,28 +7,46 @@
 // Bits and values are 16 hexadecimal digits; 2, 7 and 22 are the numbers of document 01. One space stands between two fields,
 // and a text may be empty. A line that begins with # says where the lines after it come from.
 #![tactic(auto)]
+
+ghost use Rattle.std.specs.Prelude.{◌<◌};
+
 use leaf_clock::Time;
 use leaf_counts::Count;
 use leaf_decimals::Number;
+use std::io;
+use std::io::{BufWriter, Read, Write};
 
 fn same(a: &[u8], b: &[u8]) -> bool {
     if a.len() != b.len() {
         return false;
     }
-    let mut i = 0usize;
-    while i < a.len() {
+    for i in 0..a.len() {
         if a[i] != b[i] {
             return false;
         }
-        i += 1;
     }
     true
 }
 
+fn hex_digit(d: u64) -> u8
+    requires { d < 16 }
+{
+    b"0123456789abcdef"[d as usize]
+}
+
+// Whether the answer is the number's 16 digits.
 fn is_hex(n: u64, answer: &[u8]) -> bool {
-    let mut digits = [0u8; 16];
-    let k = io::hex(n, 16, &mut digits);
-    same(&digits[..k], answer)
+    if answer.len() != 16 {
+        return false;
+    }
+    let mut rest = n;
+    for b in answer.iter().rev() {
+        if *b != hex_digit(rest % 16) {
+            return false;
+        }
+        rest /= 16;
+    }
+    true
 }
 
 fn double_agrees(x: f64, answer: &[u8]) -> bool {
@@ -72,23 +90,19 @@ fn time_agrees(text: &[u8], unit: &[u8], answer: &[u8]) -> bool {
 
 // The line up to its next space, and what follows that space.
 fn first_field(line: &[u8]) -> &[u8] {
-    let mut i = 0usize;
-    while i < line.len() {
+    for i in 0..line.len() {
         if line[i] == b' ' {
             return &line[0..i];
         }
-        i += 1;
     }
     line
 }
 
 fn after_field(line: &[u8]) -> &[u8] {
-    let mut i = 0usize;
-    while i < line.len() {
+    for i in 0..line.len() {
         if line[i] == b' ' {
             return &line[i + 1..];
         }
-        i += 1;
     }
     &line[..0]
 }
@@ -123,22 +137,22 @@ struct Tally {
     of: u32,
 }
 
-fn tallied(t: Tally, line: &[u8]) -> Tally {
+fn tallied<W: Write>(out: &mut W, t: Tally, line: &[u8]) -> io::Result<Tally> {
     if !is_vector(line) {
-        return t;
+        return Ok(t);
     }
     if agrees(line) {
-        return Tally {
-            agreed: std::num::wrapping_add_u32(t.agreed, 1),
-            of: std::num::wrapping_add_u32(t.of, 1),
-        };
+        return Ok(Tally {
+            agreed: t.agreed.wrapping_add(1),
+            of: t.of.wrapping_add(1),
+        });
     }
-    io::write_all(1, line);
-    io::write_all(1, b"\n");
-    Tally {
+    out.write_all(line)?;
+    out.write_all(b"\n")?;
+    Ok(Tally {
         agreed: t.agreed,
-        of: std::num::wrapping_add_u32(t.of, 1),
-    }
+        of: t.of.wrapping_add(1),
+    })
 }
 
 // The bytes from a up to e, and none where there are no such bytes.
@@ -152,30 +166,29 @@ fn part(text: &[u8], a: usize, e: usize) -> &[u8] {
     &text[a..e]
 }
 
-fn replayed(text: &[u8]) -> Tally {
+fn replayed<W: Write>(out: &mut W, text: &[u8]) -> io::Result<Tally> {
     let mut t = Tally { agreed: 0, of: 0 };
     let mut from = 0usize;
-    let mut i = 0usize;
-    while i < text.len() {
+    for i in 0..text.len() {
         if text[i] == b'\n' {
-            t = tallied(t, part(text, from, i));
+            t = tallied(out, t, part(text, from, i))?;
             from = i + 1;
         }
-        i += 1;
     }
-    t
+    Ok(t)
 }
 
-fn print(t: Tally) {
-    io::write_all(1, b"agree ");
-    io::print_decimal(1, t.agreed as u64);
-    io::write_all(1, b" of ");
-    io::print_decimal(1, t.of as u64);
-    io::write_all(1, b"\n");
+fn print<W: Write>(out: &mut W, t: Tally) -> io::Result<()> {
+    let agreed = t.agreed;
+    let of = t.of;
+    writeln!(out, "agree {agreed} of {of}")
 }
 
-fn main() {
-    let mut buffer = [0u8; 262144];
-    let n = io::read_full(0, &mut buffer);
-    print(replayed(&buffer[..n]));
+fn main(rt: HostRuntime) -> io::Result<()> {
+    let mut text = Vec::new(rt.alloc());
+    rt.stdin().read_to_end(&mut text)?;
+    let mut out = BufWriter::new(rt.alloc(), rt.stdout())?;
+    let t = replayed(&mut out, &text)?;
+    print(&mut out, t)?;
+    out.flush()
 }

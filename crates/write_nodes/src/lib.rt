@@ -1,6 +1,9 @@
 // The nodes of a network and a junction's demands, as the dump writes them: docs/DUMP.md has the form.
 #![tactic(auto)]
+
 use scope::Tank;
+use std::io;
+use std::io::Write;
 use stored_parts::Part;
 use stored_records::{Junction, Node, NodeKind, Reservoir};
 use stored_series::Demand;
@@ -8,109 +11,134 @@ use write_text::{count, flag, newline, number, write};
 
 // ---- a junction's demands
 
-fn show_demand(text: &[u8], d: Demand) {
+fn show_demand<W: Write>(out: &mut W, text: &[u8], d: Demand) -> io::Result<()> {
     let pattern = d.pattern;
     let index = d.index;
-    write(b"  demand");
-    number(d.base);
-    write_text::name(text, pattern);
-    write_text::index(index);
-    newline();
+    write(out, b"  demand")?;
+    number(out, d.base)?;
+    write_text::name(out, text, pattern)?;
+    write_text::index(out, index)?;
+    newline(out)
 }
 
-fn show_demands(text: &[u8], words: &[u64], numbers: &[f64], node: usize) {
+fn show_demands<W: Write>(
+    out: &mut W,
+    text: &[u8],
+    words: &[u64],
+    numbers: &[f64],
+    node: usize,
+) -> io::Result<()> {
     let counts = stored_counts::counts_at(words);
     let all = counts.demands;
-    let mut k = 0;
-    while k < all {
+    for k in 0..all {
         let d = stored_series::demand_at(words, numbers, k);
         if d.node == node {
-            show_demand(text, d);
+            show_demand(out, text, d)?;
         }
-        k += 1;
     }
+    Ok(())
 }
 
 // ---- a node
 
-fn show_place(n: Node) {
+fn show_place<W: Write>(out: &mut W, n: Node) -> io::Result<()> {
     if n.placed {
-        write_text::pair(n.x, n.y);
+        write_text::pair(out, n.x, n.y)
     } else {
-        write(b" -");
+        write(out, b" -")
     }
 }
 
 // What all nodes have. Only a junction is disabled.
-fn show_start(kind: &[u8], text: &[u8], n: Node, elevation: f64, disabled: bool) {
+fn show_start<W: Write>(
+    out: &mut W,
+    kind: &[u8],
+    text: &[u8],
+    n: Node,
+    elevation: f64,
+    disabled: bool,
+) -> io::Result<()> {
     let id = n.id;
-    write(b"node ");
-    write(kind);
-    write_text::id(text, id);
-    number(elevation);
-    show_place(n);
-    flag(disabled);
+    write(out, b"node ")?;
+    write(out, kind)?;
+    write_text::id(out, text, id)?;
+    number(out, elevation)?;
+    show_place(out, n)?;
+    flag(out, disabled)
 }
 
-fn show_junction(text: &[u8], n: Node, j: Junction, demands: usize) {
-    show_start(b"J", text, n, j.elevation, j.disabled);
-    number(j.emitter);
-    count(demands as u64);
-    newline();
+fn show_junction<W: Write>(
+    out: &mut W,
+    text: &[u8],
+    n: Node,
+    j: Junction,
+    demands: usize,
+) -> io::Result<()> {
+    show_start(out, b"J", text, n, j.elevation, j.disabled)?;
+    number(out, j.emitter)?;
+    count(out, demands as u64)?;
+    newline(out)
 }
 
-fn show_reservoir(text: &[u8], n: Node, r: Reservoir) {
+fn show_reservoir<W: Write>(out: &mut W, text: &[u8], n: Node, r: Reservoir) -> io::Result<()> {
     let pattern = r.pattern;
     let index = r.index;
-    show_start(b"R", text, n, r.elevation, false);
-    write_text::name(text, pattern);
-    write_text::index(index);
-    newline();
+    show_start(out, b"R", text, n, r.elevation, false)?;
+    write_text::name(out, text, pattern)?;
+    write_text::index(out, index)?;
+    newline(out)
 }
 
-fn show_tank(text: &[u8], n: Node, t: Tank) {
+fn show_tank<W: Write>(out: &mut W, text: &[u8], n: Node, t: Tank) -> io::Result<()> {
     let curve = t.curve;
-    show_start(b"T", text, n, t.elevation, false);
-    number(t.elevation);
-    number(t.initial);
-    number(t.minimum);
-    number(t.maximum);
-    number(t.diameter);
-    number(t.volume);
-    write_text::name(text, curve);
-    flag(t.overflow);
-    newline();
+    show_start(out, b"T", text, n, t.elevation, false)?;
+    number(out, t.elevation)?;
+    number(out, t.initial)?;
+    number(out, t.minimum)?;
+    number(out, t.maximum)?;
+    number(out, t.diameter)?;
+    number(out, t.volume)?;
+    write_text::name(out, text, curve)?;
+    flag(out, t.overflow)?;
+    newline(out)
 }
 
-fn show_node(text: &[u8], words: &[u64], numbers: &[f64], i: usize) {
+fn show_node<W: Write>(
+    out: &mut W,
+    text: &[u8],
+    words: &[u64],
+    numbers: &[f64],
+    i: usize,
+) -> io::Result<()> {
     let n = stored_records::node_at(words, numbers, i);
     let kind = n.kind;
     match kind {
         NodeKind::Junction(j) => {
             show_junction(
+                out,
                 text,
                 n,
                 j,
                 stored_parts::parts_of(words, numbers, Part::Demand, i),
-            );
-            show_demands(text, words, numbers, i);
+            )?;
+            show_demands(out, text, words, numbers, i)
         }
-        NodeKind::Reservoir(r) => {
-            show_reservoir(text, n, r);
-        }
-        NodeKind::Tank(t) => {
-            show_tank(text, n, t);
-        }
+        NodeKind::Reservoir(r) => show_reservoir(out, text, n, r),
+        NodeKind::Tank(t) => show_tank(out, text, n, t),
     }
 }
 
 // Every node, in file order.
-pub fn show_nodes(text: &[u8], words: &[u64], numbers: &[f64]) {
+pub fn show_nodes<W: Write>(
+    out: &mut W,
+    text: &[u8],
+    words: &[u64],
+    numbers: &[f64],
+) -> io::Result<()> {
     let counts = stored_counts::counts_at(words);
     let all = counts.nodes;
-    let mut i = 0;
-    while i < all {
-        show_node(text, words, numbers, i);
-        i += 1;
+    for i in 0..all {
+        show_node(out, text, words, numbers, i)?;
     }
+    Ok(())
 }

@@ -1,148 +1,121 @@
 // What the programs write: words, counts and numbers, and names as they stand in the text.
 #![tactic(auto)]
+
 use leaf_fields::{Field, Span};
-use libc::STDOUT_FILENO;
 use scope::{Found, LinkStatus};
+use std::io;
+use std::io::Write;
 
-pub fn write(b: &[u8]) {
-    io::write_all(STDOUT_FILENO, b);
+pub fn write<W: Write>(out: &mut W, b: &[u8]) -> io::Result<()> {
+    out.write_all(b)
 }
 
-pub fn newline() {
-    write(b"\n");
+pub fn newline<W: Write>(out: &mut W) -> io::Result<()> {
+    write(out, b"\n")
 }
 
-pub fn decimal(n: u64) {
-    io::print_decimal(STDOUT_FILENO, n);
+pub fn decimal<W: Write>(out: &mut W, n: u64) -> io::Result<()> {
+    write!(out, "{n}")
 }
 
 // A count after a space.
-pub fn count(n: u64) {
-    write(b" ");
-    decimal(n);
+pub fn count<W: Write>(out: &mut W, n: u64) -> io::Result<()> {
+    write(out, b" ")?;
+    decimal(out, n)
 }
 
-pub fn flag(on: bool) {
+pub fn flag<W: Write>(out: &mut W, on: bool) -> io::Result<()> {
     if on {
-        write(b" 1");
+        write(out, b" 1")
     } else {
-        write(b" 0");
+        write(out, b" 0")
     }
 }
 
 // The eight bytes of a number as hexadecimal digits; every NaN is the same.
-fn bits(x: f64) {
+fn bits<W: Write>(out: &mut W, x: f64) -> io::Result<()> {
     if x != x {
-        write(b"7ff8000000000000");
-        return;
+        return write(out, b"7ff8000000000000");
     }
-    io::print_hex(STDOUT_FILENO, f64::to_bits(x), 16);
+    let digits = f64::to_bits(x);
+    write!(out, "{digits:016x}")
 }
 
 // A number after a space.
-pub fn number(x: f64) {
-    write(b" ");
-    bits(x);
+pub fn number<W: Write>(out: &mut W, x: f64) -> io::Result<()> {
+    write(out, b" ")?;
+    bits(out, x)
 }
 
 // A place on the map or a point of a curve, after a space.
-pub fn pair(x: f64, y: f64) {
-    number(x);
-    write(b",");
-    bits(y);
+pub fn pair<W: Write>(out: &mut W, x: f64, y: f64) -> io::Result<()> {
+    number(out, x)?;
+    write(out, b",")?;
+    bits(out, y)
 }
 
-fn escaped(b: u8) {
-    write(b"\\x");
-    io::print_hex(STDOUT_FILENO, b as u64, 2);
+fn escaped<W: Write>(out: &mut W, b: u8) -> io::Result<()> {
+    write!(out, "\\x{b:02x}")
 }
 
 // A letter of a name. A backslash, a space and what does not print are escaped.
-fn letter(b: u8) {
+fn letter<W: Write>(out: &mut W, b: u8) -> io::Result<()> {
     match b {
-        0..=b' ' => {
-            escaped(b);
-        }
-        b'\\' => {
-            escaped(b);
-        }
-        127..=255 => {
-            escaped(b);
-        }
-        _ => {
-            write(&[b]);
-        }
+        0..=b' ' => escaped(out, b),
+        b'\\' => escaped(out, b),
+        127..=255 => escaped(out, b),
+        _ => write(out, &[b]),
     }
 }
 
-fn letters(name: &[u8]) {
-    let mut i = 0;
-    while i < name.len() {
-        letter(name[i]);
-        i += 1;
+fn letters<W: Write>(out: &mut W, name: &[u8]) -> io::Result<()> {
+    for b in name {
+        letter(out, *b)?;
     }
+    Ok(())
 }
 
 // A line as it stands, but for a byte that does not print: a blank.
-fn plain_letter(b: u8) {
+fn plain_letter<W: Write>(out: &mut W, b: u8) -> io::Result<()> {
     match b {
-        b' '..=b'~' => {
-            write(&[b]);
-        }
-        _ => {
-            write(b" ");
-        }
+        b' '..=b'~' => write(out, &[b]),
+        _ => write(out, b" "),
     }
 }
 
-pub fn plain(line: &[u8]) {
-    let mut i = 0;
-    while i < line.len() {
-        plain_letter(line[i]);
-        i += 1;
+pub fn plain<W: Write>(out: &mut W, line: &[u8]) -> io::Result<()> {
+    for b in line {
+        plain_letter(out, *b)?;
     }
+    Ok(())
 }
 
 // A name after a space.
-pub fn id(text: &[u8], s: Span) {
-    write(b" =");
-    letters(leaf_fields::letters_of(text, s));
+pub fn id<W: Write>(out: &mut W, text: &[u8], s: Span) -> io::Result<()> {
+    write(out, b" =")?;
+    letters(out, leaf_fields::letters_of(text, s))
 }
 
 // A name after a space; `-` where there is none.
-pub fn name(text: &[u8], f: Field) {
+pub fn name<W: Write>(out: &mut W, text: &[u8], f: Field) -> io::Result<()> {
     match f {
-        Field::Taken(s) => {
-            id(text, s);
-        }
-        Field::Nothing => {
-            write(b" -");
-        }
+        Field::Taken(s) => id(out, text, s),
+        Field::Nothing => write(out, b" -"),
     }
 }
 
 // A place in a table after a space; `-` where there is none.
-pub fn index(found: Found) {
+pub fn index<W: Write>(out: &mut W, found: Found) -> io::Result<()> {
     match found {
-        Found::At(i) => {
-            count(i as u64);
-        }
-        Found::Nowhere => {
-            write(b" -");
-        }
+        Found::At(i) => count(out, i as u64),
+        Found::Nowhere => write(out, b" -"),
     }
 }
 
-pub fn status(s: LinkStatus) {
+pub fn status<W: Write>(out: &mut W, s: LinkStatus) -> io::Result<()> {
     match s {
-        LinkStatus::Open => {
-            write(b" OPEN");
-        }
-        LinkStatus::Closed => {
-            write(b" CLOSED");
-        }
-        LinkStatus::Active => {
-            write(b" ACTIVE");
-        }
+        LinkStatus::Open => write(out, b" OPEN"),
+        LinkStatus::Closed => write(out, b" CLOSED"),
+        LinkStatus::Active => write(out, b" ACTIVE"),
     }
 }
