@@ -1,0 +1,9 @@
+-- Each turn takes a line, which is not empty and ends within the text.
+use Rattle.std.proofs.Common.{◌≤◌, ◌-◌, length}
+use Rattle.cases.proofs.replay.Given as goal
+
+abbrev pub invariant-loop-at : goal.invariant-loop-at
+invariant-loop-at g l = l.at ≤ length l.all
+
+abbrev pub decreases-loop-at : goal.decreases-loop-at
+decreases-loop-at g l = length l.all - l.at
