@@ -1,15 +1,13 @@
--- A number that equals itself is no NaN, which has no bits of its own. Assumes nothing.
-use Rattle.std.proofs.Common.{◌≡◌, false}
-use mathlib.Core.Bool.{not, true≢false}
-use lib.Dec.{T}
-use lib.Ieee.{Float, nan, inf, fin, is_nan, ne}
+-- `vectors::double_agrees` is safe: a NaN has no bits of its own, and the code asks for none. Assumes nothing.
+use Rattle.std.proofs.Common.{◌≡◌, false, not, T, true≢false, rules}
+use lib.Ieee.{Float, nan, inf, fin, eq, ne, is_nan}
 use Rattle.vectors.proofs.double_agrees.Goals as goal
 
-equals_itself : (x : Float) → ne x x ≡ false → T (not (is_nan x))
-unfolding ne is_nan
-equals_itself nan h = absurd (true≢false h)
-equals_itself (inf s) h = tt
-equals_itself (fin s m e) h = tt
+not-nan : (x : Float) → ne x x ≡ false → T (not (is_nan x))
+unfolding ne eq is_nan
+not-nan nan e = absurd (true≢false e)
+not-nan (inf s) e = tt
+not-nan (fin s m d) e = tt
 
-pub float_to_bits-digits : goal.float_to_bits-digits
-float_to_bits-digits g c = equals_itself _ c.if-x.false
+pub float_to_bits-x : goal.float_to_bits-x
+float_to_bits-x c = not-nan _ c.if-x.false
