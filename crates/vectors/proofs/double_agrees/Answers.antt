@@ -1,5 +1,5 @@
 -- `vectors::double_agrees` is safe: a NaN has no bits of its own, and the code asks for none. Assumes nothing.
-use Rattle.std.proofs.Common.{◌≡◌, false, not, T, true≢false, rules}
+use Rattle.std.proofs.Common.{◌≡◌, false, not, T, true≢false}
 use lib.Ieee.{Float, nan, inf, fin, eq, ne, is_nan}
 use Rattle.vectors.proofs.double_agrees.Goals as goal
 
