@@ -1,5 +1,6 @@
 // How many of the stored records belong to another: a junction's demands, a curve's points, a pattern's multipliers, a rule's conditions and actions.
 #![tactic(auto)]
+
 ghost use Rattle.std.specs.Prelude.{◌≡◌, List, ◌++◌, ℕ, ◌-◌, ◌≤◌, ◌<◌, length, get_or, drop};
 ghost use Rattle.scope.specs.Layout.{record_words};
 ghost use Rattle.scope.specs.Records.{Network, counts_of};

@@ -7,4 +7,4 @@ returns-then-end-first c = λ m g le. none_between c.args.first c.args.end m.cla
 
 pub returns : goal.returns
 returns c =
-    λ m g le. the_others c.args.first c.args.end m.clauses c.conditions_between.result le (c.conditions_between.ensures.1 m g le)
+    λ m g le. the_others c.args.first c.args.end m.clauses c.conditions_between.result le (c.conditions_between.ensures.value m g le)

@@ -1,13 +1,11 @@
 -- `stored_parts::conditions_between` meets its contract. Assumes nothing.
 use Prim.Native.Nat.{◌-◌, ◌≤◌}
-use native.Mathlib.Omega.{arith}
 use mathlib.Core.Path.{◌≡◌}
-use lib.ListN.{length, get_or}
-use Rattle.scope.specs.Records.{Network, no_clause}
+use lib.ListN.{length}
+use Rattle.scope.specs.Records.{Network}
 use Rattle.scope.specs.Rules.{is_condition}
 use Rattle.stored_records.specs.Back.{Stands}
 use Rattle.stored_parts.specs.Parts.{how_many, between}
-use Rattle.stored_parts.proofs.PartsLaws.{none_yet, one_more, up-to-the-end, condition-back}
 use Rattle.stored_parts.proofs.conditions_between.Given as goal
 
 abbrev pub invariant-loop-k : goal.invariant-loop-k

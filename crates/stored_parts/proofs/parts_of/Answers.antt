@@ -1,11 +1,8 @@
 -- `stored_parts::parts_of` meets its contract: the loop counts those before k. Assumes nothing.
-use Prim.Native.Nat.{◌-◌, ◌≤◌}
 use native.Mathlib.Omega.{arith}
 use mathlib.Core.Path.{◌≡◌}
 use lib.ListN.{length}
-use Rattle.scope.specs.Records.{Network}
-use Rattle.stored_records.specs.Back.{Stands}
-use Rattle.stored_parts.specs.Parts.{how_many, owners, is_place, between}
+use Rattle.stored_parts.specs.Parts.{owners, is_place}
 use Rattle.stored_parts.proofs.PartsLaws.{none_yet, one_more, all-of-them}
 use Rattle.stored_parts.proofs.parts_of.Goals as goal
 
@@ -19,9 +16,9 @@ loop-k-preserved c =
     let loop = c.loop-k in
     let given = c.args in (
       omega arith,
-      omega (arith, c.one_if-n.ensures.0),
+      omega (arith, c.one_if-n.ensures.upper_bound),
       λ m g le.
-          rw (c.one_if-n.ensures.1, c.owner_at-o.ensures m g (omega (arith, le)))
+          rw (c.one_if-n.ensures.value, c.owner_at-o.ensures m g (omega (arith, le)))
           (one_more (is_place given.owner) 0 loop.k (owners given.part m) 0 loop.n (omega arith) (omega (arith, le)) (loop.invariant.2 m g le)),
     )
 

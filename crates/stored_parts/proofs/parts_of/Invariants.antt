@@ -1,12 +1,10 @@
 -- `stored_parts::parts_of` meets its contract: the loop counts those before k. Assumes nothing.
 use Prim.Native.Nat.{◌-◌, ◌≤◌}
-use native.Mathlib.Omega.{arith}
 use mathlib.Core.Path.{◌≡◌}
 use lib.ListN.{length}
 use Rattle.scope.specs.Records.{Network}
 use Rattle.stored_records.specs.Back.{Stands}
 use Rattle.stored_parts.specs.Parts.{how_many, owners, is_place, between}
-use Rattle.stored_parts.proofs.PartsLaws.{none_yet, one_more, all-of-them}
 use Rattle.stored_parts.proofs.parts_of.Given as goal
 
 abbrev pub invariant-loop-k : goal.invariant-loop-k
