@@ -5,7 +5,6 @@ use mathlib.Core.Path.{◌≡◌, refl}
 use mathlib.Core.Bool.{true, false}
 use mathlib.Core.List.{List}
 use lib.ListN.{length, drop}
-use lib.Dec.{ltb}
 use lib.Ieee.{Float}
 use Rattle.scope.specs.declared.Counts.{Counts}
 use Rattle.scope.specs.declared.Answer.{Answer}
@@ -14,7 +13,7 @@ use Rattle.scope.specs.Layout.{record_words, room_numbers}
 use Rattle.scope.specs.Reading.{all_low, by_text, says, told, strict_of, network_in, strict_network}
 use Rattle.scope.specs.Sections.{room_text}
 use Rattle.table_rows.specs.Holding.{Holds}
-use Prim.Native.Nat.{ℕ, ◌+◌, ◌≤◌}
+use Prim.Native.Nat.{ℕ, ◌≤◌}
 use mathlib.Core.Path.{◌≡◌, refl, sym}
 use mathlib.Core.Bool.{true, false}
 use mathlib.Core.List.{List, ◌++◌}

@@ -1,5 +1,6 @@
 // Reads a text line by line into the tables that the caller lends, strictly: up to the first piece that is refused.
 #![tactic(auto)]
+
 ghost use Rattle.std.specs.Prelude.{◌≡◌, false, ◌≤◌, ◌<◌, length};
 ghost use Rattle.scope.specs.Answers.{reason_no};
 ghost use Rattle.scope.specs.Sections.{room_text};

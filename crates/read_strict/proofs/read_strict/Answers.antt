@@ -47,18 +47,18 @@ pub write_counts-requires : goal.write_counts-requires
 write_counts-requires c =
     let r = room (length c.args.words.now) (length c.args.numbers.now) (sym c.too_small.ensures ∙ c.if-too_small.false) in
     let h : record_words ≤ length c.args.words.now = omega (arith, r.0) in
-    omega (arith, r.0, back_long c.strict_in-r.new.1.0 c.args.words.now record_words (holds-words c.strict_in-r.ensures.1) h)
+    omega (arith, r.0, back_long c.strict_in-r.new.words c.args.words.now record_words (holds-words c.strict_in-r.ensures.1) h)
 
 pub shape_of-words : goal.shape_of-words
 shape_of-words c =
     let r = room (length c.args.words.now) (length c.args.numbers.now) (sym c.too_small.ensures ∙ c.if-too_small.false) in
     let h : record_words ≤ length c.args.words.now = omega (arith, r.0) in
-    c.write_counts.auto.0 ∙ back_long c.strict_in-r.new.1.0 c.args.words.now record_words (holds-words c.strict_in-r.ensures.1) h
+    c.write_counts.auto.words ∙ back_long c.strict_in-r.new.words c.args.words.now record_words (holds-words c.strict_in-r.ensures.1) h
 
 pub shape_of-numbers : goal.shape_of-numbers
 shape_of-numbers c =
     let r = room (length c.args.words.now) (length c.args.numbers.now) (sym c.too_small.ensures ∙ c.if-too_small.false) in
-    back_long c.strict_in-r.new.1.1.0 c.args.numbers.now room_numbers (holds-numbers c.strict_in-r.ensures.1) r.1
+    back_long c.strict_in-r.new.numbers c.args.numbers.now room_numbers (holds-numbers c.strict_in-r.ensures.1) r.1
 
 pub returns : goal.returns
 returns c =

@@ -5,10 +5,10 @@ use Rattle.read_text.proofs.RoomLaws.{cleared}
 use Rattle.read_strict.proofs.strict_in.Goals as goal
 
 pub shape_of-words-then-text-gt-TEXT_ROOM : goal.shape_of-words-then-text-gt-TEXT_ROOM
-shape_of-words-then-text-gt-TEXT_ROOM c = c.clear_words.auto.0
+shape_of-words-then-text-gt-TEXT_ROOM c = c.clear_words.auto.words
 
 pub shape_of-numbers-then-text-gt-TEXT_ROOM : goal.shape_of-numbers-then-text-gt-TEXT_ROOM
-shape_of-numbers-then-text-gt-TEXT_ROOM c = c.clear_numbers.auto.0
+shape_of-numbers-then-text-gt-TEXT_ROOM c = c.clear_numbers.auto.numbers
 
 pub returns-then-text-gt-TEXT_ROOM : goal.returns-then-text-gt-TEXT_ROOM
 returns-then-text-gt-TEXT_ROOM c =
@@ -21,20 +21,20 @@ run-requires c =
 
 pub shape_of-words-then-all_low : goal.shape_of-words-then-all_low
 shape_of-words-then-all_low c =
-    c.run.auto.1.0 ∙ c.clear_words.auto.0
+    c.run.auto.words ∙ c.clear_words.auto.words
 
 pub shape_of-numbers-then-all_low : goal.shape_of-numbers-then-all_low
-shape_of-numbers-then-all_low c = c.run.auto.1.1.0 ∙ c.clear_numbers.auto.0
+shape_of-numbers-then-all_low c = c.run.auto.numbers ∙ c.clear_numbers.auto.numbers
 
 pub returns-then-all_low : goal.returns-then-all_low
 returns-then-all_low c =
     in_all c.args.text.now c.if-text-gt-TEXT_ROOM.false (sym c.all_low.ensures ∙ c.if-all_low.true) c.run.ensures
 
 pub shape_of-words : goal.shape_of-words
-shape_of-words c = c.clear_words.auto.0
+shape_of-words c = c.clear_words.auto.words
 
 pub shape_of-numbers : goal.shape_of-numbers
-shape_of-numbers c = c.clear_numbers.auto.0
+shape_of-numbers c = c.clear_numbers.auto.numbers
 
 pub returns : goal.returns
 returns c =
