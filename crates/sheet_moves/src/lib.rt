@@ -1,5 +1,6 @@
 // How often the stored rules close, open, activate and set links: of a rule, of a link, of all rules. The crew sheet stands on these counts.
 #![tactic(auto)]
+
 ghost use Rattle.std.specs.Prelude.{◌≡◌, List, ◌-◌, ◌*◌, ◌≤◌, Float, length, take, drop};
 ghost use Rattle.scope.specs.Records.{Network};
 ghost use Rattle.scope.specs.Sections.{room_links, room_clauses};

@@ -1,11 +1,9 @@
 -- `sheet_moves::all_made` meets its contract. Assumes nothing.
 use Prim.Native.Nat.{◌-◌, ◌*◌, ◌≤◌}
-use native.Mathlib.Omega.{arith}
-use mathlib.Core.Path.{◌≡◌, ◌∙◌}
+use mathlib.Core.Path.{◌≡◌}
 use Rattle.scope.specs.Sections.{room_clauses}
 use Rattle.scope.specs.Records.{Network}
 use Rattle.sheet_moves.specs.Moves.{Tallied, made_below}
-use Rattle.sheet_moves.proofs.MovesLaws.{made_none, made-next, made_all}
 use Rattle.sheet_moves.proofs.all_made.Given as goal
 
 abbrev pub invariant-loop-i : goal.invariant-loop-i

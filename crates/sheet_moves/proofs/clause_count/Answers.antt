@@ -6,9 +6,9 @@ use Rattle.scope.specs.declared.Counts.{Counts}
 use Rattle.sheet_moves.proofs.clause_count.Goals as goal
 
 pub returns : goal.returns
-returns c = (
-  c.least.ensures.1,
-  λ m f t.
+returns c = record {
+  upper_bound = c.least.ensures.1;
+  value = λ m f t.
       let e : c.counts_at-counts.result.clauses ≡ length m.clauses = ap (λ (n : Counts). n.clauses) (c.counts_at-counts.ensures m t.rest t.counts) in
-      c.least.ensures.2 (omega (arith, e, t.stands.words.known.clauses.bound)) ∙ e,
-)
+      c.least.ensures.2 (omega (arith, e, t.stands.words.known.clauses.bound)) ∙ e;
+}

@@ -7,12 +7,12 @@ use Rattle.sheet_moves.proofs.MovesLaws.{whole}
 use Rattle.sheet_moves.proofs.link_moves.Goals as goal
 
 pub moves_between-requires : goal.moves_between-requires
-moves_between-requires c = c.clause_count.ensures.0
+moves_between-requires c = c.clause_count.ensures.upper_bound
 
 pub returns : goal.returns
-returns c = (
-  c.moves_between.ensures.0,
-  λ m t.
-      let e : c.clause_count.result ≡ length m.clauses = c.clause_count.ensures.1 m c.args.numbers.now t in
-      c.moves_between.ensures.1 m t.stands (omega (arith, e)) ∙ whole (One c.args.i) c.args.otherwise m.clauses e,
-)
+returns c = record {
+  few = c.moves_between.ensures.few;
+  value = λ m t.
+      let e : c.clause_count.result ≡ length m.clauses = c.clause_count.ensures.value m c.args.numbers.now t in
+      c.moves_between.ensures.value m t.stands (omega (arith, e)) ∙ whole (One c.args.i) c.args.otherwise m.clauses e;
+}

@@ -9,4 +9,5 @@ overflow_add-result c =
 
 pub returns : goal.returns
 returns c =
-    made-is c.args.then c.args.otherwise c.requires.0 c.requires.1 c.larger_of.ensures
+    let both = made-is c.args.then c.args.otherwise c.requires.0 c.requires.1 c.larger_of.ensures in
+    record { upper_bound = both.0; value = both.1 }

@@ -1,12 +1,8 @@
 -- `sheet_moves::moves_between` meets its contract. Assumes nothing.
-use Prim.Native.Nat.{◌-◌, ◌+◌, ◌≤◌}
+use Prim.Native.Nat.{◌-◌, ◌+◌}
 use native.Mathlib.Omega.{arith}
-use mathlib.Core.Path.{◌≡◌}
-use lib.ListN.{length}
-use Rattle.scope.specs.Records.{Network}
-use Rattle.stored_records.specs.Back.{Stands}
 use Rattle.sheet_actions.specs.Steps.{Few}
-use Rattle.sheet_moves.proofs.MovesLaws.{sofar, none_yet, then-one-more, all-of-them, few-none, few-more, few-within}
+use Rattle.sheet_moves.proofs.MovesLaws.{none_yet, then-one-more, all-of-them, few-none, few-more, few-within}
 use Rattle.sheet_moves.proofs.moves_between.Goals as goal
 
 pub loop-k-init : goal.loop-k-init
@@ -29,9 +25,9 @@ loop-k-preserved c =
 
 pub returns : goal.returns
 returns c =
-    (
-      few-within (omega arith) c.loop-k.invariant.2,
-      λ m g le.
+    record {
+      few = few-within (omega arith) c.loop-k.invariant.2;
+      value = λ m g le.
           all-of-them c.args.which c.args.otherwise m.clauses c.args.first c.loop-k.k c.args.end c.loop-k.n
-          c.loop-k.invariant.0 (omega arith) c.loop-k.invariant.1 (c.loop-k.invariant.3 m g le),
-    )
+          c.loop-k.invariant.0 (omega arith) c.loop-k.invariant.1 (c.loop-k.invariant.3 m g le);
+    }

@@ -1,12 +1,11 @@
 -- `sheet_moves::moves_between` meets its contract. Assumes nothing.
-use Prim.Native.Nat.{◌-◌, ◌+◌, ◌≤◌}
-use native.Mathlib.Omega.{arith}
+use Prim.Native.Nat.{◌-◌, ◌≤◌}
 use mathlib.Core.Path.{◌≡◌}
 use lib.ListN.{length}
 use Rattle.scope.specs.Records.{Network}
 use Rattle.stored_records.specs.Back.{Stands}
 use Rattle.sheet_actions.specs.Steps.{Few}
-use Rattle.sheet_moves.proofs.MovesLaws.{sofar, none_yet, then-one-more, all-of-them, few-none, few-more, few-within}
+use Rattle.sheet_moves.proofs.MovesLaws.{sofar}
 use Rattle.sheet_moves.proofs.moves_between.Given as goal
 
 abbrev pub invariant-loop-k : goal.invariant-loop-k
