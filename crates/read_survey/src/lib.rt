@@ -1,5 +1,6 @@
 // Surveys a text into the tables that the caller lends: every line is read, whatever is refused, and each has its class and its reason.
 #![tactic(auto)]
+
 ghost use Rattle.std.specs.Prelude.{◌≡◌, ◌≤◌, length, replicate, false};
 ghost use Rattle.scope_lines.specs.Tables.{code_of, reason_in, marks_in};
 ghost use Rattle.scope.specs.Sections.{room_lines, room_text};

@@ -61,12 +61,12 @@ survey_in-r-requires c =
 pub write_counts-requires : goal.write_counts-requires
 write_counts-requires c =
     counts-fit c.args.words.now c.args.numbers.now c.args.classes.now c.args.reasons.now
-    (sym c.survey_small.ensures ∙ c.if-survey_small.false) c.survey_in-r.new.1.0 (holds-words c.survey_in-r.ensures.1)
+    (sym c.survey_small.ensures ∙ c.if-survey_small.false) c.survey_in-r.new.words (holds-words c.survey_in-r.ensures.1)
 
 pub shape_of-words : goal.shape_of-words
 shape_of-words c =
-    c.write_counts.auto.0 ∙ words_long c.args.words.now c.args.numbers.now c.args.classes.now c.args.reasons.now
-    (sym c.survey_small.ensures ∙ c.if-survey_small.false) c.survey_in-r.new.1.0 (holds-words c.survey_in-r.ensures.1)
+    c.write_counts.auto.words ∙ words_long c.args.words.now c.args.numbers.now c.args.classes.now c.args.reasons.now
+    (sym c.survey_small.ensures ∙ c.if-survey_small.false) c.survey_in-r.new.words (holds-words c.survey_in-r.ensures.1)
 
 pub returns : goal.returns
 returns c =
