@@ -1,5 +1,6 @@
 // The vocabulary of document 01, declared once. What each word means is said in specs/, heading by heading of the paper.
 #![tactic(auto)]
+
 use leaf_fields::{Field, Span};
 
 // "Sections read and sections passed over": the thirteen that are read, and whatever is passed over.

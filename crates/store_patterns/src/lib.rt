@@ -1,5 +1,6 @@
 // Stores what a line of PATTERNS says, as parse_series reads it.
 #![tactic(auto)]
+
 ghost use Rattle.std.specs.Prelude.{◌≡◌, List, ◌+◌, ◌≤◌, length, take, replicate, Float};
 ghost use Rattle.leaf_fields.specs.Fields.{fields_at, name_in, Fits};
 ghost use Rattle.scope.specs.Sections.{room_multipliers};

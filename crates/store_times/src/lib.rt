@@ -1,5 +1,6 @@
 // Reads a line of TIMES, and stores what it says.
 #![tactic(auto)]
+
 ghost use Rattle.std.specs.Prelude.{◌≡◌, ◌&&◌, ◌≤◌, length, take};
 ghost use Rattle.scope.specs.Layout.{record_words};
 ghost use Rattle.leaf_fields.specs.Fields.{fields_at, name_in};

@@ -47,7 +47,7 @@ put_multipliers-requires-then-n-lt-PATTERNS_MOST c =
 pub returns-then-n-lt-PATTERNS_MOST : goal.returns-then-n-lt-PATTERNS_MOST
 returns-then-n-lt-PATTERNS_MOST c =
     let look : (m : Network) → Holds c.args.text.now m c.args.s c.args.words.now c.args.numbers.now → lookup m.patterns (part c.args.p.id.at c.args.p.id.end c.args.text.now) ≡ c.find_at-found.result = λ m h. sym (c.find_at-found.ensures m h.words (count-patterns h)) in
-    λ m xs h g.     let n = g.long in
+    λ m xs h g. let n = g.long in
     rw (← n)
     (starts h c.args.p.id xs (omega (arith, n, c.if-k-count-gt-MULTIPLIERS_MOST.false)) _ _ _ (look m h ∙ c.in-Nowhere.is) c.requires.1 c.if-n-lt-PATTERNS_MOST.true
     c.put_id.ensures (c.put_multipliers-then-n-lt-PATTERNS_MOST.ensures xs g).0 (c.put_multipliers-then-n-lt-PATTERNS_MOST.ensures xs g).1)
