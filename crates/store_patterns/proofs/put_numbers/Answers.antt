@@ -1,8 +1,6 @@
 -- `store_patterns::put_numbers` meets its contract. Assumes nothing.
-use Prim.Native.Nat.{◌-◌}
 use native.Mathlib.Omega.{arith}
-use lib.ListN.{length}
-use Rattle.store_patterns.proofs.StoringLaws.{Placed, none-placed, one_placed, all_placed}
+use Rattle.store_patterns.proofs.StoringLaws.{none-placed, one_placed, all_placed}
 use Rattle.store_patterns.proofs.put_numbers.Goals as goal
 
 pub loop-i-init : goal.loop-i-init

@@ -2,12 +2,11 @@
 use Prim.Native.Nat.{◌<◌}
 use native.Mathlib.Omega.{arith}
 use mathlib.Core.Path.{◌≡◌, sym, ap, ◌∙◌}
-use lib.ListN.{length}
 use Rattle.leaf_fields.specs.Fields.{fields_at}
 use Rattle.scope.specs.Sections.{room_multipliers}
 use Rattle.scope.specs.Values.{took, number_from}
 use Rattle.parse_fields.specs.Taking.{took_number}
-use Rattle.store_patterns.proofs.StoringLaws.{took_one, Storing, start-storing, room_for, turn, ended}
+use Rattle.store_patterns.proofs.StoringLaws.{took_one, start-storing, room_for, turn, ended}
 use Rattle.store_patterns.proofs.put_rest.Goals as goal
 
 pub loop-x-init : goal.loop-x-init

@@ -1,9 +1,5 @@
 -- `store_times::has_colon` meets its contract. Assumes nothing.
-use Prim.Native.Nat.{◌+◌, ◌-◌}
 use native.Mathlib.Omega.{arith}
-use mathlib.Core.Path.{◌≡◌}
-use lib.ListN.{length, drop}
-use Rattle.leaf_clock.specs.Times.{colon_at}
 use Rattle.store_times.proofs.ColonLaws.{colon-here, colon-later, colon-nowhere}
 use Rattle.store_times.proofs.has_colon.Goals as goal
 
