@@ -1,5 +1,6 @@
 // Works out the patterns' places, at the end of a text.
 #![tactic(auto)]
+
 ghost use Rattle.std.specs.Prelude.{◌≡◌, List, [], ◌∷◌, ◌<◌, length, Float};
 ghost use Rattle.std.proofs.Math.Option.{Option};
 ghost use Rattle.leaf_fields.specs.Fields.{Name};

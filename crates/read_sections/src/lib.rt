@@ -1,5 +1,6 @@
 // The sections of a text: a line is handed to the reader of its section; the lines of some sections are passed over, those of RULES are kept for their group.
 #![tactic(auto)]
+
 ghost use Rattle.std.specs.Prelude.{◌≤◌, length, take};
 ghost use Rattle.leaf_fields.specs.Fields.{fields_at};
 ghost use Rattle.scope.specs.Records.{Network};

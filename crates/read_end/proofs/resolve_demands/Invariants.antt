@@ -1,10 +1,6 @@
 -- `read_end::resolve_demands` meets its contract. Assumes nothing.
 use Prim.Native.Nat.{◌-◌}
-use native.Mathlib.Omega.{arith}
-use mathlib.Core.Path.{sym, ◌∙◌}
-use Rattle.table_rows.proofs.HoldLaws.{bound-demands}
-use Rattle.table_rows.proofs.AfterLaws.{holds-words, sound-words}
-use Rattle.read_end.proofs.ResolveLaws.{Demands, start-demands, next-demands, all-demands}
+use Rattle.read_end.proofs.ResolveLaws.{Demands}
 use Rattle.read_end.proofs.resolve_demands.Given as goal
 
 abbrev pub invariant-loop-k : goal.invariant-loop-k

@@ -1,10 +1,6 @@
 -- `read_end::resolve_nodes` meets its contract. Assumes nothing.
 use Prim.Native.Nat.{◌-◌}
-use native.Mathlib.Omega.{arith}
-use mathlib.Core.Path.{sym, ◌∙◌}
-use Rattle.table_rows.proofs.HoldLaws.{bound-nodes}
-use Rattle.table_rows.proofs.AfterLaws.{holds-words, sound-words}
-use Rattle.read_end.proofs.ResolveLaws.{Nodes, start-nodes, next-nodes, all-nodes}
+use Rattle.read_end.proofs.ResolveLaws.{Nodes}
 use Rattle.read_end.proofs.resolve_nodes.Given as goal
 
 abbrev pub invariant-loop-k : goal.invariant-loop-k
