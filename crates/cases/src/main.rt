@@ -87,9 +87,12 @@ fn replay<W: Write>(out: &mut W, all: &[u8]) -> io::Result<()> {
     show_part(out, all, from, at)
 }
 
+// How much of the input is read.
+const ROOM: u64 = 262144;
+
 fn main(rt: HostRuntime) -> io::Result<()> {
     let mut text = Vec::new(rt.alloc());
-    rt.stdin().read_to_end(&mut text)?;
+    rt.stdin().take(ROOM).read_to_end(&mut text)?;
     let mut out = BufWriter::new(rt.alloc(), rt.stdout())?;
     replay(&mut out, &text)?;
     out.flush()
