@@ -1,10 +1,10 @@
 -- The first colon, one byte further; and what hours and minutes come to. Assumes nothing.
+use Rattle.std.specs.Prelude.{Err, None, Ok, Some}
 use Rattle.std.proofs.Common.{◌≡◌, ℕ, suc, ◌+◌, ◌*◌, ◌%◌, ◌<◌, ◌≤◌, Bool, true, false, cond, eqb, List, [], ◌∷◌, length, get_or, drop, arith, drop_of_length-le, drop-cons, eq-eqb, ne_eqb, le-leb}
 use borrow.Author.Tests.{lt-leb}
-use Rattle.leaf_counts.specs.declared.Count.TheVariants.{Whole, Uncounted}
 use Rattle.leaf_counts.specs.Counts.{count_of}
 use Rattle.leaf_letters.specs.Words.{spelled}
-use Rattle.leaf_clock.specs.declared.Time.TheVariants.{Seconds, Malformed, Beyond}
+use Rattle.leaf_clock.specs.declared.TimeError.TheVariants.{Malformed, Beyond}
 use Rattle.leaf_clock.specs.Times.{colon_at, word_am, word_pm, hour_of, colon_form}
 
 module _ (s : List ℕ) (i : ℕ) where
@@ -40,24 +40,24 @@ hour-le h suffix = go (spelled suffix word_am) (spelled suffix word_pm)
     go false false = omega arith
 
 module _ (hours minutes suffix : List ℕ) where
-  pub no-hours : count_of hours ≡ Uncounted → Malformed ≡ colon_form hours minutes suffix
+  pub no-hours : count_of hours ≡ None → (Err Malformed) ≡ colon_form hours minutes suffix
   unfolding colon_form
   no-hours e = rw e
 
-  module _ (h : ℕ) (e : count_of hours ≡ Whole h) where
-    pub many-hours : 1000000000 < h → Beyond ≡ colon_form hours minutes suffix
+  module _ (h : ℕ) (e : count_of hours ≡ Some h) where
+    pub many-hours : 1000000000 < h → (Err Beyond) ≡ colon_form hours minutes suffix
     unfolding colon_form
     many-hours b = rw (e, lt-leb h 1000000000 b)
 
-    pub no-minutes : h ≤ 1000000000 → count_of minutes ≡ Uncounted → Malformed ≡ colon_form hours minutes suffix
+    pub no-minutes : h ≤ 1000000000 → count_of minutes ≡ None → (Err Malformed) ≡ colon_form hours minutes suffix
     unfolding colon_form
     no-minutes b f = rw (e, le-leb h 1000000000 b, f)
 
-    pub many-minutes : h ≤ 1000000000 → (m : ℕ) → count_of minutes ≡ Whole m → 1000000000 < m → Beyond ≡ colon_form hours minutes suffix
+    pub many-minutes : h ≤ 1000000000 → (m : ℕ) → count_of minutes ≡ Some m → 1000000000 < m → (Err Beyond) ≡ colon_form hours minutes suffix
     unfolding colon_form
     many-minutes b m f d = rw (e, le-leb h 1000000000 b, f, lt-leb m 1000000000 d)
 
-    pub both : h ≤ 1000000000 → (m : ℕ) → count_of minutes ≡ Whole m → m ≤ 1000000000 → (r : ℕ) → r ≡ hour_of h suffix
-        → Seconds (r * 3600 + m * 60) ≡ colon_form hours minutes suffix
+    pub both : h ≤ 1000000000 → (m : ℕ) → count_of minutes ≡ Some m → m ≤ 1000000000 → (r : ℕ) → r ≡ hour_of h suffix
+        → Ok (r * 3600 + m * 60) ≡ colon_form hours minutes suffix
     unfolding colon_form
     both b m f d r g = rw (e, le-leb h 1000000000 b, f, le-leb m 1000000000 d, g)

@@ -1,11 +1,11 @@
 -- The product of a time is the rounded one. Assumes nothing.
+use Rattle.leaf_clock.specs.declared.TimeError.{TimeError}
+use Rattle.leaf_decimals.specs.declared.NumberError.{NumberError}
+use Rattle.std.specs.Prelude.{Ok, Result}
 use Rattle.std.proofs.Common.{◌≡◌, ℕ, suc, ◌^◌, ◌<◌, ◌≤◌, Bool, true, false, not, T, List, ℤ, pos, sym, refl, ap, ◌∙◌, subst, lt_irrefl, arith, lit≤, ne_eqb}
 use lib.Ieee.{Float, nan, inf, fin, binary64, of_int, mul}
-use Rattle.leaf_decimals.specs.declared.Number.{Number}
-use Rattle.leaf_decimals.specs.declared.Number.TheVariants.{Value}
 use Rattle.leaf_decimals.specs.Numbers.{number_of}
 use Rattle.leaf_decimals.proofs.Products.{times-nearest}
-use Rattle.leaf_clock.specs.declared.Time.{Time}
 use Rattle.leaf_clock.specs.declared.Unit.{Unit}
 use Rattle.leaf_clock.specs.declared.Unit.TheVariants.{Hour, Minute, Second, Day, Am, Pm, Unknown}
 use Rattle.leaf_clock.specs.Times.{has_colon, number_form, unit_of, factor_of, times, in_unit, time_of}
@@ -39,14 +39,14 @@ not-true : (b : Bool) → T (not b) → b ≡ false
 not-true true t = absurd t
 not-true false t = refl
 
-no-colon : (time unit : List ℕ) (x : Float) → T (not (has_colon time)) → number_of time ≡ Value x → in_unit (unit_of unit) x ≡ time_of time unit
+no-colon : (time unit : List ℕ) (x : Float) → T (not (has_colon time)) → number_of time ≡ Ok x → in_unit (unit_of unit) x ≡ time_of time unit
 unfolding time_of
-no-colon time unit x t e = passed _ _ _ _ (not-true (has_colon time) t) (ap (λ (n : Number). number_form n (unit_of unit)) (sym e))
+no-colon time unit x t e = passed _ _ _ _ (not-true (has_colon time) t) (ap (λ (n : Result Float NumberError). number_form n (unit_of unit)) (sym e))
 
-pub by-nearest : (time unit : List ℕ) (r : Time) → r ≡ time_of time unit → (r ≡ time_of time unit) × ByNearest time unit r
+pub by-nearest : (time unit : List ℕ) (r : Result ℕ TimeError) → r ≡ time_of time unit → (r ≡ time_of time unit) × ByNearest time unit r
 by-nearest time unit r f = (
   f,
   record {
-    product = λ t x e h. subst (λ (z : Time). CutProduct x (factor_of (unit_of unit)) z) (no-colon time unit x t e ∙ sym f) (unit-product (unit_of unit) x h);
+    product = λ t x e h. subst (λ (z : Result ℕ TimeError). CutProduct x (factor_of (unit_of unit)) z) (no-colon time unit x t e ∙ sym f) (unit-product (unit_of unit) x h);
   },
 )

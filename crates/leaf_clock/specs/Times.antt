@@ -1,33 +1,31 @@
 -- What a time is. Document 01, "Numbers and times", second paragraph. A text is a list of bytes. Assumes nothing.
-use Rattle.std.specs.Prelude.{ℕ, suc, ◌+◌, ◌-◌, ◌*◌, ◌%◌, Bool, cond, List, [], ◌∷◌, length, take, drop, pos, ◌==◌, nat_le, nat_lt, Float}
+use Rattle.leaf_clock.specs.declared.TimeError.{TimeError}
+use Rattle.leaf_decimals.specs.declared.NumberError.{NumberError}
+use Rattle.std.specs.Prelude.{ℕ, suc, ◌+◌, ◌-◌, ◌*◌, ◌%◌, Bool, cond, List, [], ◌∷◌, length, take, drop, pos, ◌==◌, nat_le, nat_lt, Float, Err, None, Ok, Option, Result, Some}
 use Rattle.std.specs.Float.{binary64}
 use Rattle.std.specs.Float.Ieee.{of_int, mul}
-use Rattle.leaf_decimals.specs.declared.Number.{Number}
-use Rattle.leaf_decimals.specs.declared.Number.TheVariants as number
-use Rattle.leaf_counts.specs.declared.Count.{Count}
-use Rattle.leaf_counts.specs.declared.Count.TheVariants.{Whole, Uncounted}
+use Rattle.leaf_decimals.specs.declared.NumberError.TheVariants as number
 use Rattle.leaf_decimals.specs.Numbers.{number_of}
 use Rattle.leaf_counts.specs.Counts.{count_of}
 use Rattle.leaf_letters.specs.Words.{spelled}
-use Rattle.leaf_clock.specs.declared.Time.{Time}
-use Rattle.leaf_clock.specs.declared.Time.TheVariants.{Seconds, Malformed, Beyond, UnknownUnit}
+use Rattle.leaf_clock.specs.declared.TimeError.TheVariants.{Malformed, Beyond, UnknownUnit}
 use Rattle.leaf_clock.specs.declared.Unit.{Unit}
 use Rattle.leaf_clock.specs.declared.Unit.TheVariants.{Hour, Minute, Second, Day, Am, Pm, Unknown}
 use Rattle.leaf_clock.specs.Cut.{cut}
 
 -- the number of the answer
-abbrev pub time_answer : Time → ℕ
-time_answer (Seconds n) = 0
-time_answer Malformed = 2
-time_answer Beyond = 22
-time_answer UnknownUnit = 7
+abbrev pub time_answer : Result ℕ TimeError → ℕ
+time_answer (Ok n) = 0
+time_answer (Err Malformed) = 2
+time_answer (Err Beyond) = 22
+time_answer (Err UnknownUnit) = 7
 
 -- the seconds that it hands out, none where the time is refused
-abbrev pub seconds_in : Time → ℕ
-seconds_in (Seconds n) = n
-seconds_in Malformed = 0
-seconds_in Beyond = 0
-seconds_in UnknownUnit = 0
+abbrev pub seconds_in : Result ℕ TimeError → ℕ
+seconds_in (Ok n) = n
+seconds_in (Err Malformed) = 0
+seconds_in (Err Beyond) = 0
+seconds_in (Err UnknownUnit) = 0
 
 -- ---- the words of suffixes and units
 abbrev pub word_am : List ℕ
@@ -60,7 +58,7 @@ word_day = 68 ∷ 65 ∷ 89 ∷ []
 abbrev pub word_s : List ℕ
 word_s = 83 ∷ []
 
--- ---- "Time with a colon: hours and minutes are counts, each at most 1,000,000,000 else 22, hours judged fully before minutes;
+-- ---- "(Result ℕ TimeError) with a colon: hours and minutes are counts, each at most 1,000,000,000 else 22, hours judged fully before minutes;
 -- later parts are ignored; minutes may pass 59."
 -- how many bytes stand before the first colon, which is all of them where there is none
 unfoldable pub colon_at : List ℕ → ℕ
@@ -87,14 +85,14 @@ unfoldable pub hour_of : ℕ → List ℕ → ℕ
 hour_of h suffix = cond (spelled suffix word_am) (morning h) (cond (spelled suffix word_pm) (afternoon h) h)
 
 -- hours or minutes, once they are judged
-abbrev pub on_count : Count → (ℕ → Time) → Time
-on_count Uncounted go = Malformed
-on_count (Whole n) go = cond (nat_le n 1000000000) (go n) Beyond
+abbrev pub on_count : Option ℕ → (ℕ → Result ℕ TimeError) → Result ℕ TimeError
+on_count None go = Err Malformed
+on_count (Some n) go = cond (nat_le n 1000000000) (go n) (Err Beyond)
 
--- "Seconds = hours x 3600 + minutes x 60."
-unfoldable pub colon_form : List ℕ → List ℕ → List ℕ → Time
+-- "Ok = hours x 3600 + minutes x 60."
+unfoldable pub colon_form : List ℕ → List ℕ → List ℕ → Result ℕ TimeError
 unfolding hour_of
-colon_form hours minutes suffix = on_count (count_of hours) (λ h. on_count (count_of minutes) (λ m. Seconds (hour_of h suffix * 3600 + m * 60)))
+colon_form hours minutes suffix = on_count (count_of hours) (λ h. on_count (count_of minutes) (λ m. Ok (hour_of h suffix * 3600 + m * 60)))
 
 -- ---- "Without a colon: a number, unit raised, HOURS if absent; a final S is dropped unless the unit is HOURS."
 unfoldable pub without_s : List ℕ → List ℕ
@@ -139,22 +137,25 @@ factor_of Unknown = 0
 abbrev pub times : Float → ℕ → Float
 times x k = mul binary64 x (of_int binary64 (pos k))
 
-unfoldable pub in_unit : Unit → Float → Time
-in_unit Hour x = Seconds (cut (times x (factor_of Hour)))
-in_unit Minute x = Seconds (cut (times x (factor_of Minute)))
-in_unit Second x = Seconds (cut x)
-in_unit Day x = Seconds (cut (times x (factor_of Day)))
-in_unit Am x = Seconds (morning (cut x) * 3600)
-in_unit Pm x = Seconds (afternoon (cut x) * 3600)
-in_unit Unknown x = UnknownUnit
+unfoldable pub in_unit : Unit → Float → Result ℕ TimeError
+in_unit Hour x = Ok (cut (times x (factor_of Hour)))
+in_unit Minute x = Ok (cut (times x (factor_of Minute)))
+in_unit Second x = Ok (cut x)
+in_unit Day x = Ok (cut (times x (factor_of Day)))
+in_unit Am x = Ok (morning (cut x) * 3600)
+in_unit Pm x = Ok (afternoon (cut x) * 3600)
+in_unit Unknown x = Err UnknownUnit
 
 -- the number is judged before the unit
-abbrev pub number_form : Number → Unit → Time
-number_form number.Malformed unit = Malformed
-number_form number.Beyond unit = Beyond
-number_form (number.Value x) unit = in_unit unit x
+abbrev pub time_error : NumberError → TimeError
+time_error number.Malformed = Malformed
+time_error number.Beyond = Beyond
+
+abbrev pub number_form : Result Float NumberError → Unit → Result ℕ TimeError
+number_form (Err e) unit = Err (time_error e)
+number_form (Ok x) unit = in_unit unit x
 
 -- ---- a time and its unit or suffix, which is empty where none stands
-unfoldable pub time_of : List ℕ → List ℕ → Time
+unfoldable pub time_of : List ℕ → List ℕ → Result ℕ TimeError
 unfolding colon_form unit_of in_unit
 time_of time unit = cond (has_colon time) (colon_form (before_colon time) (before_colon (after_colon time)) unit) (number_form (number_of time) (unit_of unit))

@@ -3,18 +3,28 @@
 
 ghost use Rattle.std.specs.Prelude.{◌≡◌};
 ghost use Rattle.leaf_clock.specs.Cut.{cut};
-ghost use Rattle.leaf_clock.specs.Times.{colon_at, before_colon, morning, afternoon, hour_of, colon_form, without_s, unit_words, named, unit_of, in_unit, time_of};
+ghost use Rattle.leaf_clock.specs.Times.{colon_at, before_colon, morning, afternoon, hour_of, colon_form, without_s, unit_words, named, unit_of, in_unit, time_error, time_of};
 ghost use Rattle.leaf_clock.specs.Products.{ByNearest};
 
-use leaf_counts::Count;
-use leaf_decimals::Number;
+use leaf_decimals::NumberError;
 
-#[derive(Clone, Copy)]
-pub enum Time {
-    Seconds(u64),
+// Why a text gives no time.
+#[derive(Clone, Copy, PartialEq, Eq, Debug)]
+pub enum TimeError {
     Malformed,
     Beyond,
     UnknownUnit,
+}
+
+impl From<NumberError> for TimeError {
+    ghost from_gives = { λ e r. r ≡ time_error e };
+
+    fn from(e: NumberError) -> TimeError {
+        match e {
+            NumberError::Malformed => TimeError::Malformed,
+            NumberError::Beyond => TimeError::Beyond,
+        }
+    }
 }
 
 #[derive(Clone, Copy)]
@@ -75,25 +85,25 @@ fn hour_of(h: u64, suffix: &[u8]) -> u64
     h
 }
 
-fn colon_form(hours: &[u8], minutes: &[u8], suffix: &[u8]) -> Time
+fn colon_form(hours: &[u8], minutes: &[u8], suffix: &[u8]) -> Result<u64, TimeError>
     ensures { result ≡ colon_form hours.now minutes.now suffix.now }
 {
     let h = leaf_counts::read_count(hours);
-    let Count::Whole(h) = h else {
-        return Time::Malformed;
+    let Some(h) = h else {
+        return Err(TimeError::Malformed);
     };
     if h > 1000000000 {
-        return Time::Beyond;
+        return Err(TimeError::Beyond);
     }
     let m = leaf_counts::read_count(minutes);
-    let Count::Whole(m) = m else {
-        return Time::Malformed;
+    let Some(m) = m else {
+        return Err(TimeError::Malformed);
     };
     if m > 1000000000 {
-        return Time::Beyond;
+        return Err(TimeError::Beyond);
     }
     let hour = hour_of(h, suffix);
-    Time::Seconds(hour * 3600 + m * 60)
+    Ok(hour * 3600 + m * 60)
 }
 
 // ---- a number with a unit
@@ -172,24 +182,24 @@ fn whole_part(x: f64) -> u64
     }
 }
 
-fn in_unit(x: f64, unit: Unit) -> Time
+fn in_unit(x: f64, unit: Unit) -> Result<u64, TimeError>
     ensures { result ≡ in_unit unit x }
 {
     match unit {
-        Unit::Hour => Time::Seconds(whole_part(x * 3600.0)),
-        Unit::Minute => Time::Seconds(whole_part(x * 60.0)),
-        Unit::Second => Time::Seconds(whole_part(x)),
-        Unit::Day => Time::Seconds(whole_part(x * 86400.0)),
-        Unit::Am => Time::Seconds(morning(whole_part(x)) * 3600),
-        Unit::Pm => Time::Seconds(afternoon(whole_part(x)) * 3600),
-        Unit::Unknown => Time::UnknownUnit,
+        Unit::Hour => Ok(whole_part(x * 3600.0)),
+        Unit::Minute => Ok(whole_part(x * 60.0)),
+        Unit::Second => Ok(whole_part(x)),
+        Unit::Day => Ok(whole_part(x * 86400.0)),
+        Unit::Am => Ok(morning(whole_part(x)) * 3600),
+        Unit::Pm => Ok(afternoon(whole_part(x)) * 3600),
+        Unit::Unknown => Err(TimeError::UnknownUnit),
     }
 }
 
 // ---- both
 
 // An empty unit says that none stands there.
-pub fn read_time(time: &[u8], unit: &[u8]) -> Time
+pub fn read_time(time: &[u8], unit: &[u8]) -> Result<u64, TimeError>
     ensures value { result ≡ time_of time.now unit.now }
     ensures nearest { ByNearest time.now unit.now result }
 {
@@ -197,10 +207,6 @@ pub fn read_time(time: &[u8], unit: &[u8]) -> Time
     if at < time.len() {
         return colon_form(&time[..at], before_colon(&time[at + 1..]), unit);
     }
-    let n = leaf_decimals::read_number(time);
-    match n {
-        Number::Malformed => Time::Malformed,
-        Number::Beyond => Time::Beyond,
-        Number::Value(x) => in_unit(x, unit_of(unit)),
-    }
+    let x = leaf_decimals::read_number(time)?;
+    in_unit(x, unit_of(unit))
 }

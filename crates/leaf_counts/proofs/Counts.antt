@@ -1,4 +1,5 @@
 -- A count, one digit at a time. Assumes nothing.
+use Rattle.std.specs.Prelude.{None, Option, Some}
 use mathlib.Core.Path.{◌≡◌, refl, sym, ap, ◌∙◌}
 use mathlib.Core.Bool.{Bool, true, false, not, cond, ◌||◌, false≢true}
 use mathlib.Core.List.{List, [], ◌∷◌}
@@ -11,8 +12,6 @@ use lib.Seq.{drop-cons}
 use lib.Dec.{leb}
 use borrow.Author.Tests.{eq-eqb, ne_eqb, le-leb, lt-leb}
 use Rattle.leaf_digits.specs.declared.Class.TheVariants.{Digit, Sign}
-use Rattle.leaf_counts.specs.declared.Count.{Count}
-use Rattle.leaf_counts.specs.declared.Count.TheVariants.{Whole, Uncounted}
 use Rattle.leaf_digits.specs.Bytes.{class_of, is}
 use Rattle.leaf_digits.specs.Digits.{digits, after, value, empty}
 use Rattle.leaf_counts.specs.Counts.{whole, count_of}
@@ -21,8 +20,8 @@ use Rattle.leaf_digits.proofs.Digits.{digits-yes, digits-no, value-cons}
 use Rattle.leaf_digits.proofs.Lists.{head_of, nil-of}
 
 -- what a count is whose last digits are those of s, with those of a before them
-pub from : ℕ → List ℕ → Count
-from a s = cond (not (empty (after s)) || leb (2 ^ 64) (value a (digits s))) Uncounted (Whole (value a (digits s)))
+pub from : ℕ → List ℕ → Option ℕ
+from a s = cond (not (empty (after s)) || leb (2 ^ 64) (value a (digits s))) None (Some (value a (digits s)))
 
 after-yes : (b : ℕ) (t : List ℕ) → is Digit b ≡ true → after (b ∷ t) ≡ after t
 unfolding after
@@ -36,7 +35,7 @@ from-yes : (a b : ℕ) (t : List ℕ) → is Digit b ≡ true → from a (b ∷ 
 unfolding from
 from-yes a b t e = rw (after-yes b t e, digits-yes b t e, value-cons)
 
-from-no : (a b : ℕ) (t : List ℕ) → is Digit b ≡ false → from a (b ∷ t) ≡ Uncounted
+from-no : (a b : ℕ) (t : List ℕ) → is Digit b ≡ false → from a (b ∷ t) ≡ None
 unfolding from
 from-no a b t e = simp (after-no b t e)
 
@@ -46,15 +45,15 @@ unfolding value
 value-le a [] = omega arith
 value-le a (d ∷ t) = le_trans (omega arith) (value-le (a * 10 + (d - 48)) t)
 
-past : (x : Bool) (y : Bool) (c : Count) → y ≡ true → cond (x || y) Uncounted c ≡ Uncounted
+past : (x : Bool) (y : Bool) (c : Option ℕ) → y ≡ true → cond (x || y) None c ≡ None
 past true y c e = refl
-past false y c e = ap (λ (z : Bool). cond z Uncounted c) e
+past false y c e = ap (λ (z : Bool). cond z None c) e
 
-from_past : (a : ℕ) (s : List ℕ) → 2 ^ 64 ≤ a → from a s ≡ Uncounted
+from_past : (a : ℕ) (s : List ℕ) → 2 ^ 64 ≤ a → from a s ≡ None
 unfolding from
 from_past a s h = past (not (empty (after s))) _ _ (le-leb (2 ^ 64) (value a (digits s)) (le_trans h (value-le a (digits s))))
 
-from-nil : (a : ℕ) → a < 2 ^ 64 → from a [] ≡ Whole a
+from-nil : (a : ℕ) → a < 2 ^ 64 → from a [] ≡ Some a
 unfolding from after digits value
 from-nil a h = simp (lt-leb (2 ^ 64) a h)
 
@@ -74,23 +73,23 @@ module _ (s : List ℕ) (i v : ℕ) where
   pub from_more : i < length s → is Digit (get_or s i 0) ≡ true → from v (drop i s) ≡ from (v * 10 + (get_or s i 0 - 48)) (drop (i + 1) s)
   from_more h e = opened h ∙ from-yes v (get_or s i 0) (drop (i + 1) s) e
 
-  pub from-other : i < length s → is Digit (get_or s i 0) ≡ false → from v (drop i s) ≡ Uncounted
+  pub from-other : i < length s → is Digit (get_or s i 0) ≡ false → from v (drop i s) ≡ None
   from-other h e = opened h ∙ from-no v (get_or s i 0) (drop (i + 1) s) e
 
-  pub from-over : i < length s → is Digit (get_or s i 0) ≡ true → 2 ^ 64 ≤ v * 10 + (get_or s i 0 - 48) → from v (drop i s) ≡ Uncounted
+  pub from-over : i < length s → is Digit (get_or s i 0) ≡ true → 2 ^ 64 ≤ v * 10 + (get_or s i 0 - 48) → from v (drop i s) ≡ None
   from-over h e k = from_more h e ∙ from_past (v * 10 + (get_or s i 0 - 48)) (drop (i + 1) s) k
 
-  pub from_end : length s ≤ i → v < 2 ^ 64 → from v (drop i s) ≡ Whole v
+  pub from_end : length s ≤ i → v < 2 ^ 64 → from v (drop i s) ≡ Some v
   from_end h k = ap (from v) (drop_of_length-le s h) ∙ from-nil v k
 
-pub whole-nil : (s : List ℕ) → length s ≡ 0 → whole s ≡ Uncounted
+pub whole-nil : (s : List ℕ) → length s ≡ 0 → whole s ≡ None
 unfolding whole digits
 whole-nil s e = ap whole (nil-of s e)
 
 pub whole-start : (s : List ℕ) → 0 < length s → from 0 s ≡ whole s
 whole-start s h = ap (from 0) (head_of s h) ∙ sym (whole_from (get_or s 0 0) (drop 1 s)) ∙ ap whole (sym (head_of s h))
 
-pub count-nil : (s : List ℕ) → length s ≡ 0 → count_of s ≡ Uncounted
+pub count-nil : (s : List ℕ) → length s ≡ 0 → count_of s ≡ None
 unfolding count_of
 count-nil s e = ap count_of (nil-of s e) ∙ whole-nil [] refl
 
@@ -107,5 +106,5 @@ unfolding class_of
 count-unsigned s h e = count-plain s h (λ q. let z : ◌≡◌ {A = Bool} true false = ap (is Sign) (sym q) ∙ e in absurd (false≢true (sym z)))
 
 -- another sign
-pub count-sign : (s : List ℕ) → 0 < length s → is Sign (get_or s 0 0) ≡ true → (get_or s 0 0 ≡ 43 → ⊥) → count_of s ≡ Uncounted
+pub count-sign : (s : List ℕ) → 0 < length s → is Sign (get_or s 0 0) ≡ true → (get_or s 0 0 ≡ 43 → ⊥) → count_of s ≡ None
 count-sign s h e n = count-plain s h n ∙ sym (whole-start s h) ∙ from-other s 0 0 h (class-is Sign _ e Digit)

@@ -6,18 +6,12 @@ ghost use Rattle.leaf_counts.specs.Counts.{whole, count_of};
 
 use leaf_digits::Class;
 
-#[derive(Clone, Copy)]
-pub enum Count {
-    Whole(u64),
-    Uncounted,
-}
-
 // s is a count after its sign. A digit is taken only where the count stays below 2^64.
-fn read_whole(s: &[u8]) -> Count
+fn read_whole(s: &[u8]) -> Option<u64>
     ensures { result ≡ whole s.now }
 {
     if s.len() == 0 {
-        return Count::Uncounted;
+        return None;
     }
     let mut i = 0;
     let mut v = 0;
@@ -26,22 +20,22 @@ fn read_whole(s: &[u8]) -> Count
         if leaf_digits::is_digit(b) {
             let d = leaf_digits::digit_value(b);
             if v > (18446744073709551615 - d) / 10 {
-                return Count::Uncounted;
+                return None;
             }
             v = v * 10 + d;
         } else {
-            return Count::Uncounted;
+            return None;
         }
         i += 1;
     }
-    Count::Whole(v)
+    Some(v)
 }
 
-pub fn read_count(s: &[u8]) -> Count
+pub fn read_count(s: &[u8]) -> Option<u64>
     ensures { result ≡ count_of s.now }
 {
     if s.len() == 0 {
-        return Count::Uncounted;
+        return None;
     }
     let b = s[0];
     let k = leaf_digits::class_of(b);
@@ -51,6 +45,6 @@ pub fn read_count(s: &[u8]) -> Count
     if b == b'+' {
         read_whole(&s[1..])
     } else {
-        Count::Uncounted
+        None
     }
 }

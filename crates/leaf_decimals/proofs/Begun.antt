@@ -1,4 +1,6 @@
 -- A plain number is all that stands before the first whitespace, and what it is. Assumes nothing.
+use Rattle.leaf_decimals.specs.declared.NumberError.{NumberError}
+use Rattle.std.specs.Prelude.{Result, Float}
 use mathlib.Core.Path.{◌≡◌, refl, sym, ap, ◌∙◌, subst}
 use mathlib.Core.Bool.{Bool, true, false}
 use mathlib.Core.List.{List, [], ◌∷◌}
@@ -18,7 +20,6 @@ use Rattle.leaf_digits.proofs.Classes.{class-is}
 use Rattle.leaf_digits.proofs.Digits.{digits-no, digits-nil, digits-yes, digits-stop, digits_le}
 use Rattle.leaf_digits.proofs.Ends.{word_on, word-off, word-digits}
 use Rattle.leaf_digits.proofs.Runs.{all-places, all-counted}
-use Rattle.leaf_decimals.specs.declared.Number.{Number}
 use Rattle.leaf_decimals.specs.Reach.{meaning}
 use Rattle.leaf_decimals.specs.Numbers.{outcome, point, number_of}
 use Rattle.leaf_decimals.proofs.Reading.{ending-nil, point-nil, point-only, digits-law, number-none, unsigned-begun}
@@ -68,7 +69,7 @@ module _ (s : List ℕ) (v n : ℕ) (en : n ≡ length (digits s)) (ev : v ≡ m
   fits : n ≤ length s
   fits = omega (arith, digits_le s)
 
-  pub plain-whole : ended (drop n s) ≡ true → (r : Number) → r ≡ meaning false v 0 0 → (n ≡ word_len s) × (r ≡ number_of (take n s))
+  pub plain-whole : ended (drop n s) ≡ true → (r : Result Float NumberError) → r ≡ meaning false v 0 0 → (n ≡ word_len s) × (r ≡ number_of (take n s))
   plain-whole e r q =
       let l : List ℕ = take (length (take n s) - n) (drop n (take n s)) in
       let z : length l ≡ 0 = omega (arith, ap length (tail_of (take n s) n), length-drop n (take n s), length-take-le n s fits) in (
@@ -88,7 +89,7 @@ module _ (s : List ℕ) (v n : ℕ) (en : n ≡ length (digits s)) (ev : v ≡ m
     behind : drop n (take (n + suc m) s) ≡ get_or s n 0 ∷ take m t
     behind = ap (drop n) (take-add n (suc m) s) ∙ drop_at (take n s) (take (suc m) (drop n s)) n (length-take-le n s fits) ∙ ap (take (suc m)) opened
 
-    pub plain-point : ended (drop m t) ≡ true → (r : Number) → r ≡ meaning false x 0 m → (n + 1 + m ≡ word_len s) × (r ≡ number_of (take (n + 1 + m) s))
+    pub plain-point : ended (drop m t) ≡ true → (r : Result Float NumberError) → r ≡ meaning false x 0 m → (n + 1 + m ≡ word_len s) × (r ≡ number_of (take (n + 1 + m) s))
     plain-point e r q =
         let k : n + 1 + m ≡ n + suc m = omega arith in
         let l : List ℕ = take (length (take (n + suc m) s) - n) (drop n (take (n + suc m) s)) in
@@ -112,13 +113,13 @@ point-none : (s : List ℕ) (n : ℕ) → n < length s → is Point (get_or s n 
 point-none s n g p = digits-stop s n g (class-is Point _ p Digit)
 
 module _ (s : List ℕ) (n v to : ℕ) (k : Scanned s 0 0 n v) (r : Room v n to) (some : n ≡ 0 → ⊥) where
-  pub whole-read : ended (drop n s) ≡ true → (a : Number) → a ≡ meaning false v 0 0 → (n ≡ word_len s) × (a ≡ number_of (take n s))
+  pub whole-read : ended (drop n s) ≡ true → (a : Result Float NumberError) → a ≡ meaning false v 0 0 → (n ≡ word_len s) × (a ≡ number_of (take n s))
   whole-read e a q =
       let z = ended-none (drop n s) e in
       plain-whole s v n (omega (arith, all-places k to r z)) (all-counted k to r z) some e a q
 
   pub point-read : (p : is Point (get_or s n 0) ≡ true) (g : n < length s) (end x : ℕ) → Scanned s (n + 1) v end x → Room x end to → (end ≡ n + 1 → ⊥) → ended (drop end s) ≡ true
-      → (a : Number) → a ≡ meaning false x 0 (end - (n + 1)) → (end ≡ word_len s) × (a ≡ number_of (take end s))
+      → (a : Result Float NumberError) → a ≡ meaning false x 0 (end - (n + 1)) → (end ≡ word_len s) × (a ≡ number_of (take end s))
   point-read p g end x f o more e a q =
       let z = point-none s n g p in
       let y = ended-none (drop end s) e in

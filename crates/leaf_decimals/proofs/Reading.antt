@@ -1,4 +1,5 @@
 -- The parts of the grammar by cases, as the code goes; and that a count which stops at the cap changes nothing. Assumes nothing.
+use Rattle.std.specs.Prelude.{Err, Ok}
 use mathlib.Core.Path.{◌≡◌, refl, sym, ap, ◌∙◌}
 use mathlib.Core.Bool.{Bool, true, false, not, cond, ◌||◌}
 use mathlib.Core.List.{List, [], ◌∷◌}
@@ -8,7 +9,7 @@ use lib.ListN.{length, drop, take, get_or, length-drop}
 use lib.Dec.{eqb}
 use lib.Ieee.{inf, nan}
 use borrow.Author.Tests.{eq-eqb, ne_eqb}
-use Rattle.leaf_decimals.specs.declared.Number.TheVariants.{Value, Malformed}
+use Rattle.leaf_decimals.specs.declared.NumberError.TheVariants.{Malformed}
 use Rattle.leaf_digits.specs.declared.Class.TheVariants.{Sign, Point, Exponent}
 use Rattle.leaf_decimals.specs.Reach.{meaning}
 use Rattle.leaf_digits.specs.Cap.{cap}
@@ -47,15 +48,15 @@ wrong-more s h = simp (empty-no (after s) (omega (arith, after-length s))) (or-t
 right : (s : List ℕ) → (length (digits s) ≡ 0 → ⊥) → length s ≤ length (digits s) → wrong s ≡ false
 right s n h = simp (empty-no (digits s) (omega arith), empty-yes (after s) (omega (arith, after-length s)))
 
-pub power-wrong : (minus : Bool) (w frac : ℕ) (back : Bool) (s : List ℕ) → wrong s ≡ true → outcome (power minus w frac back s) ≡ Malformed
+pub power-wrong : (minus : Bool) (w frac : ℕ) (back : Bool) (s : List ℕ) → wrong s ≡ true → outcome (power minus w frac back s) ≡ Err Malformed
 unfolding power
 power-wrong minus w frac true s e = simp e
 power-wrong minus w frac false s e = simp e
 
-pub power-none : (minus : Bool) (w frac : ℕ) (back : Bool) (s : List ℕ) → length (digits s) ≡ 0 → outcome (power minus w frac back s) ≡ Malformed
+pub power-none : (minus : Bool) (w frac : ℕ) (back : Bool) (s : List ℕ) → length (digits s) ≡ 0 → outcome (power minus w frac back s) ≡ Err Malformed
 power-none minus w frac back s e = power-wrong minus w frac back s (wrong-none s e)
 
-pub power-more : (minus : Bool) (w frac : ℕ) (back : Bool) (s : List ℕ) → length (digits s) < length s → outcome (power minus w frac back s) ≡ Malformed
+pub power-more : (minus : Bool) (w frac : ℕ) (back : Bool) (s : List ℕ) → length (digits s) < length s → outcome (power minus w frac back s) ≡ Err Malformed
 power-more minus w frac back s h = power-wrong minus w frac back s (wrong-more s h)
 
 module _ (minus : Bool) (w frac : ℕ) (s : List ℕ) (n : length (digits s) ≡ 0 → ⊥) (h : length s ≤ length (digits s)) where
@@ -68,7 +69,7 @@ module _ (minus : Bool) (w frac : ℕ) (s : List ℕ) (n : length (digits s) ≡
   power-forth back e = ap (λ (b : Bool). outcome (power minus w frac b s)) e ∙ simp (right s n h)
 
 -- ---- the other parts, on a text that is empty or begins with b
-pub exponent-nil : (minus : Bool) (w frac : ℕ) (s : List ℕ) → length s ≡ 0 → outcome (exponent minus w frac s) ≡ Malformed
+pub exponent-nil : (minus : Bool) (w frac : ℕ) (s : List ℕ) → length s ≡ 0 → outcome (exponent minus w frac s) ≡ Err Malformed
 unfolding exponent
 exponent-nil minus w frac s e = ap (λ (l : List ℕ). outcome (exponent minus w frac l)) (nil-of s e)
 
@@ -141,7 +142,7 @@ ending-cap minus w count frac (b ∷ t) =
     pick-cap (eqb count 0 || not (is Exponent b)) malformed (exponent minus (min w cap) frac t) malformed (exponent minus w frac t) refl (exponent-cap minus w frac t)
 
 -- ---- the whole text
-pub number-nil : (s : List ℕ) → length s ≡ 0 → number_of s ≡ Malformed
+pub number-nil : (s : List ℕ) → length s ≡ 0 → number_of s ≡ Err Malformed
 unfolding number_of
 number-nil s e = ap number_of (nil-of s e)
 
@@ -155,11 +156,11 @@ module _ (s : List ℕ) (h : 0 < length s) where
   number-none e = ap number_of (head_of s h) ∙ (simp e) ∙ ap (λ (l : List ℕ). outcome (unsigned false l)) (sym (head_of s h))
 
 module _ (minus : Bool) (s : List ℕ) where
-  pub unsigned-inf : spells s word_inf ≡ true → outcome (unsigned minus s) ≡ Value (inf minus)
+  pub unsigned-inf : spells s word_inf ≡ true → outcome (unsigned minus s) ≡ Ok (inf minus)
   unfolding unsigned
   unsigned-inf e = simp e
 
-  pub unsigned-infinity : spells s word_infinity ≡ true → outcome (unsigned minus s) ≡ Value (inf minus)
+  pub unsigned-infinity : spells s word_infinity ≡ true → outcome (unsigned minus s) ≡ Ok (inf minus)
   unfolding unsigned
   unsigned-infinity e = simp (e, or-true)
     where
@@ -168,7 +169,7 @@ module _ (minus : Bool) (s : List ℕ) where
       or-true false = refl
 
   module _ (a : spells s word_inf ≡ false) (b : spells s word_infinity ≡ false) where
-    pub unsigned-nan : spells s word_nan ≡ true → outcome (unsigned minus s) ≡ Value nan
+    pub unsigned-nan : spells s word_nan ≡ true → outcome (unsigned minus s) ≡ Ok nan
     unfolding unsigned
     unsigned-nan e = simp (a, b, e)
 

@@ -1,4 +1,6 @@
 -- One multiplication or division of exact doubles gives the double nearest to the decimal number. Assumes nothing.
+use Rattle.leaf_decimals.specs.declared.NumberError.{NumberError}
+use Rattle.std.specs.Prelude.{Err, Ok, Result}
 use mathlib.Core.Path.{◌≡◌, refl, sym, ap, ◌∙◌, subst}
 use mathlib.Core.List.{List}
 use mathlib.Core.Logic.{◌⊎◌, inl, inr}
@@ -17,8 +19,7 @@ use lib.Ieee.Back.{round_whole}
 use lib.Ieee.Scale.{round_same}
 use lib.Ieee.Positive.{num, den, positive, den_pos, value→cross, positive_of_value, mul_at}
 use borrow.Author.Tests.{ne_eqb, eqb-true}
-use Rattle.leaf_decimals.specs.declared.Number.{Number}
-use Rattle.leaf_decimals.specs.declared.Number.TheVariants.{Value, Malformed, Beyond}
+use Rattle.leaf_decimals.specs.declared.NumberError.TheVariants.{Malformed, Beyond}
 use Rattle.leaf_decimals.specs.Nearest.{IsNearest, limit}
 use Rattle.leaf_decimals.specs.Reach.{ten, signed, in_reach, reachable, meaning}
 use Rattle.leaf_decimals.specs.Numbers.{Reading, malformed, word, decimal, outcome, reading_of, number_of, number_answer, number_value, Right, AsRead}
@@ -139,7 +140,7 @@ or-second : (a b : Bool) → T (a || b) → (a ≡ true) ⊎ T b
 or-second true b t = inl refl
 or-second false b t = inr t
 
-past_all : (a b : Bool) (x y : Number) → T (not (a || b)) → cond a x (cond b y Beyond) ≡ Beyond
+past_all : (a b : Bool) (x y : Result Float NumberError) → T (not (a || b)) → cond a x (cond b y (Err Beyond)) ≡ Err Beyond
 past_all true b x y t = absurd t
 past_all false true x y t = absurd t
 past_all false false x y t = refl
@@ -154,14 +155,14 @@ in_reach-law w up down t =
 pub meaning-right : (minus : Bool) (w up down : ℕ) → Right minus w up down (meaning minus w up down)
 meaning-right minus w up down = record { within = λ t. told (within t); past = λ t. ap number_answer (past t) }
   where
-    told : (x : Float) × (meaning minus w up down ≡ Value x) × IsNearest minus (w * 10 ^ up) (10 ^ down) x
+    told : (x : Float) × (meaning minus w up down ≡ Ok x) × IsNearest minus (w * 10 ^ up) (10 ^ down) x
         → (number_answer (meaning minus w up down) ≡ 0) × IsNearest minus (w * 10 ^ up) (10 ^ down) (number_value (meaning minus w up down))
-    told (x, e, n) = (ap number_answer e, subst (λ (y : Number). IsNearest minus (w * 10 ^ up) (10 ^ down) (number_value y)) (sym e) n)
+    told (x, e, n) = (ap number_answer e, subst (λ (y : Result Float NumberError). IsNearest minus (w * 10 ^ up) (10 ^ down) (number_value y)) (sym e) n)
 
-    zero-case : w ≡ 0 → (x : Float) × (meaning minus w up down ≡ Value x) × IsNearest minus (w * 10 ^ up) (10 ^ down) x
+    zero-case : w ≡ 0 → (x : Float) × (meaning minus w up down ≡ Ok x) × IsNearest minus (w * 10 ^ up) (10 ^ down) x
     zero-case e = (signed minus (fin false 0 (pos 0)), meaning-zero minus w up down e, nearest_zero minus w up down e)
 
-    some-case : 0 < w → T (in_reach w up down) → (x : Float) × (meaning minus w up down ≡ Value x) × IsNearest minus (w * 10 ^ up) (10 ^ down) x
+    some-case : 0 < w → T (in_reach w up down) → (x : Float) × (meaning minus w up down ≡ Ok x) × IsNearest minus (w * 10 ^ up) (10 ^ down) x
     some-case W t =
         let r = in_reach-law w up down t in
         let n : w ≡ 0 → ⊥ = λ e. omega arith in
@@ -175,14 +176,14 @@ meaning-right minus w up down = record { within = λ t. told (within t); past = 
               (signed minus (div binary64 (of_int binary64 (pos w)) (ten (down - up))), meaning-down minus w up down n r.0 h k, nearest-div minus w up down W r.0 g k)
         ]
 
-    within : T (reachable w up down) → (x : Float) × (meaning minus w up down ≡ Value x) × IsNearest minus (w * 10 ^ up) (10 ^ down) x
+    within : T (reachable w up down) → (x : Float) × (meaning minus w up down ≡ Ok x) × IsNearest minus (w * 10 ^ up) (10 ^ down) x
     within t =
         elim (eq-zero-or-pos w) [
           | inl e ↦ zero-case e
           | inr W ↦ elim (or-second (eqb w 0) (in_reach w up down) t) [ inl e ↦ zero-case (eqb-true w 0 e) | inr u ↦ some-case W u ]
         ]
 
-    past : T (not (reachable w up down)) → meaning minus w up down ≡ Beyond
+    past : T (not (reachable w up down)) → meaning minus w up down ≡ Err Beyond
     past t = unfold meaning in past_all (eqb w 0) (in_reach w up down) _ _ t
 
 -- ---- so is what a reading gives
@@ -192,38 +193,38 @@ as_read (word x) = (refl, refl)
 as_read (decimal minus w up down) = meaning-right minus w up down
 
 -- the two clauses of a contract, from the first
-pub both-clauses : (s : List ℕ) (r : Number) → r ≡ number_of s → (r ≡ number_of s) × AsRead (reading_of s) r
+pub both-clauses : (s : List ℕ) (r : Result Float NumberError) → r ≡ number_of s → (r ≡ number_of s) × AsRead (reading_of s) r
 unfolding number_of
-both-clauses s r e = (e, subst (λ (x : Number). AsRead (reading_of s) x) (sym e) (as_read (reading_of s)))
+both-clauses s r e = (e, subst (λ (x : Result Float NumberError). AsRead (reading_of s) x) (sym e) (as_read (reading_of s)))
 
 -- ---- and no second answer is as the reading says
-taken : (r : Number) → number_answer r ≡ 0 → r ≡ Value (number_value r)
-taken (Value x) e = refl
-taken Malformed e = cc
-taken Beyond e = cc
+taken : (r : Result Float NumberError) → number_answer r ≡ 0 → r ≡ Ok (number_value r)
+taken (Ok x) e = refl
+taken (Err Malformed) e = cc
+taken (Err Beyond) e = cc
 
-refused : (r q : Number) (n : ℕ) → 0 < n → number_answer r ≡ n → number_answer q ≡ n → r ≡ q
-refused (Value x) q n h e f = absurd (no n h e)
+refused : (r q : Result Float NumberError) (n : ℕ) → 0 < n → number_answer r ≡ n → number_answer q ≡ n → r ≡ q
+refused (Ok x) q n h e f = absurd (no n h e)
   where
     no : (n : ℕ) → 0 < n → 0 ≡ n → ⊥
     no n h e = omega arith
-refused Malformed (Value x) n h e f = cc
-refused Malformed Malformed n h e f = refl
-refused Malformed Beyond n h e f = cc
-refused Beyond (Value x) n h e f = cc
-refused Beyond Malformed n h e f = cc
-refused Beyond Beyond n h e f = refl
+refused (Err Malformed) (Ok x) n h e f = cc
+refused (Err Malformed) (Err Malformed) n h e f = refl
+refused (Err Malformed) (Err Beyond) n h e f = cc
+refused (Err Beyond) (Ok x) n h e f = cc
+refused (Err Beyond) (Err Malformed) n h e f = cc
+refused (Err Beyond) (Err Beyond) n h e f = refl
 
-pub as-read-unique : (d : Reading) (r q : Number) → AsRead d r → AsRead d q → r ≡ q
+pub as-read-unique : (d : Reading) (r q : Result Float NumberError) → AsRead d r → AsRead d q → r ≡ q
 as-read-unique malformed r q v w = refused r q 2 (zero-lt-suc 1) v w
-as-read-unique (word x) r q v w = taken r v.0 ∙ ap Value (v.1 ∙ sym w.1) ∙ sym (taken q w.0)
+as-read-unique (word x) r q v w = taken r v.0 ∙ ap Ok (v.1 ∙ sym w.1) ∙ sym (taken q w.0)
 as-read-unique (decimal minus w up down) r q v u = go (reachable w up down) refl
   where
     go : (b : Bool) → reachable w up down ≡ b → r ≡ q
     go true e =
         let t = subst T (sym e) tt in
         taken r (v.within t).0
-        ∙ ap Value (nearest-unique minus (w * 10 ^ up) (10 ^ down) (ten-pos down) (number_value r) (number_value q) (v.within t).1 (u.within t).1)
+        ∙ ap Ok (nearest-unique minus (w * 10 ^ up) (10 ^ down) (ten-pos down) (number_value r) (number_value q) (v.within t).1 (u.within t).1)
         ∙ sym (taken q (u.within t).0)
     go false e =
         let t = subst (λ (b : Bool). T (not b)) (sym e) tt in

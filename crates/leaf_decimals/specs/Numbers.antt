@@ -1,9 +1,9 @@
 -- What is a number, and which. Document 01, "Numbers and times": "A number: optional sign, then `inf`, `infinity` or `nan` in any case, or digits with
 -- at most one point and at least one digit, then optionally e or E, optional sign, at least one digit." Assumes nothing.
-use Rattle.std.specs.Prelude.{◌≡◌, Bool, true, false, cond, not, ◌&&◌, ◌||◌, List, [], ◌∷◌, ℕ, ◌+◌, ◌*◌, ◌^◌, length, pos, T, eqb, Float}
+use Rattle.leaf_decimals.specs.declared.NumberError.{NumberError}
+use Rattle.std.specs.Prelude.{◌≡◌, Bool, true, false, cond, not, ◌&&◌, ◌||◌, List, [], ◌∷◌, ℕ, ◌+◌, ◌*◌, ◌^◌, length, pos, T, eqb, Float, Err, Ok, Result}
 use Rattle.std.specs.Float.{nan, inf, fin}
-use Rattle.leaf_decimals.specs.declared.Number.{Number}
-use Rattle.leaf_decimals.specs.declared.Number.TheVariants.{Value, Malformed, Beyond}
+use Rattle.leaf_decimals.specs.declared.NumberError.TheVariants.{Malformed, Beyond}
 use Rattle.leaf_digits.specs.declared.Class.TheVariants.{Sign, Point, Exponent}
 use Rattle.leaf_digits.specs.Bytes.{class_of, is, lower}
 use Rattle.leaf_digits.specs.Digits.{digits, after, value, empty}
@@ -71,34 +71,34 @@ reading_of [] = malformed
 reading_of (b ∷ t) = cond (is Sign b) (unsigned (eqb b 45) t) (unsigned false (b ∷ t))
 
 -- ---- what it is
-abbrev pub outcome : Reading → Number
-outcome malformed = Malformed
-outcome (word x) = Value x
+abbrev pub outcome : Reading → Result Float NumberError
+outcome malformed = Err Malformed
+outcome (word x) = Ok x
 outcome (decimal minus w up down) = meaning minus w up down
 
-unfoldable pub number_of : List ℕ → Number
+unfoldable pub number_of : List ℕ → Result Float NumberError
 unfolding reading_of
 number_of s = outcome (reading_of s)
 
 -- ---- an answer in document 01's terms: its number, and the double that it carries
-abbrev pub number_answer : Number → ℕ
-number_answer (Value x) = 0
-number_answer Malformed = 2
-number_answer Beyond = 22
+abbrev pub number_answer : Result Float NumberError → ℕ
+number_answer (Ok x) = 0
+number_answer (Err Malformed) = 2
+number_answer (Err Beyond) = 22
 
-abbrev pub number_value : Number → Float
-number_value (Value x) = x
-number_value Malformed = fin false 0 (pos 0)
-number_value Beyond = fin false 0 (pos 0)
+abbrev pub number_value : Result Float NumberError → Float
+number_value (Ok x) = x
+number_value (Err Malformed) = fin false 0 (pos 0)
+number_value (Err Beyond) = fin false 0 (pos 0)
 
 -- ---- the same, with the double told by Nearest alone: no rounding function is named
 -- r is the double nearest to ±w * 10 ^ up / 10 ^ down, with its sign; or that is beyond reach, and r says so
-pub record Right (minus : Bool) (w up down : ℕ) (r : Number) : Type 0 where
+pub record Right (minus : Bool) (w up down : ℕ) (r : Result Float NumberError) : Type 0 where
   pub within : T (reachable w up down) → (number_answer r ≡ 0) × IsNearest minus (w * 10 ^ up) (10 ^ down) (number_value r)
   pub past : T (not (reachable w up down)) → number_answer r ≡ 22
 
 -- r is what the reading says
-abbrev pub AsRead : Reading → Number → Type 0
+abbrev pub AsRead : Reading → Result Float NumberError → Type 0
 AsRead malformed r = number_answer r ≡ 2
 AsRead (word x) r = (number_answer r ≡ 0) × (number_value r ≡ x)
 AsRead (decimal minus w up down) r = Right minus w up down r

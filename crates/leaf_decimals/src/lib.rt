@@ -10,9 +10,9 @@ ghost use Rattle.leaf_decimals.specs.Begun.{Begins};
 
 use leaf_digits::Class;
 
-#[derive(Clone, Copy)]
-pub enum Number {
-    Value(f64),
+// Why a text gives no number: it is none, or the number is beyond reach.
+#[derive(Clone, Copy, PartialEq, Eq, Debug)]
+pub enum NumberError {
     Malformed,
     Beyond,
 }
@@ -64,26 +64,26 @@ fn gap(a: usize, b: usize) -> usize
 }
 
 // ±w * 10^up / 10^down. Both w and the power of ten are doubles exactly, so the one operation rounds right.
-fn valued(minus: bool, w: u64, up: usize, down: usize) -> Number
+fn valued(minus: bool, w: u64, up: usize, down: usize) -> Result<f64, NumberError>
     ensures { result ≡ meaning minus w up down }
 {
     if w == 0 {
         let zero = with_sign(minus, 0.0);
-        return Number::Value(zero);
+        return Ok(zero);
     }
     if w > 9007199254740992 {
-        return Number::Beyond;
+        return Err(NumberError::Beyond);
     }
     let k = gap(up, down);
     if k > 22 {
-        return Number::Beyond;
+        return Err(NumberError::Beyond);
     }
     let x = w as f64;
     let p = power_of_ten(k);
     if down <= up {
-        Number::Value(with_sign(minus, x * p))
+        Ok(with_sign(minus, x * p))
     } else {
-        Number::Value(with_sign(minus, x / p))
+        Ok(with_sign(minus, x / p))
     }
 }
 
@@ -110,7 +110,7 @@ fn is_word(s: &[u8], w: &[u8]) -> bool
 // in specs/Numbers.antt does
 
 // s is an exponent after its sign.
-fn read_power(minus: bool, w: u64, frac: usize, back: bool, s: &[u8]) -> Number
+fn read_power(minus: bool, w: u64, frac: usize, back: bool, s: &[u8]) -> Result<f64, NumberError>
     requires { frac < 2 ^ 63 }
     ensures { result ≡ outcome (power minus w frac back s.now) }
 {
@@ -118,10 +118,10 @@ fn read_power(minus: bool, w: u64, frac: usize, back: bool, s: &[u8]) -> Number
     let n = d.len;
     let x = d.value as usize;
     if n == 0 {
-        return Number::Malformed;
+        return Err(NumberError::Malformed);
     }
     if n < s.len() {
-        return Number::Malformed;
+        return Err(NumberError::Malformed);
     }
     if back {
         if x > 22 {
@@ -135,12 +135,12 @@ fn read_power(minus: bool, w: u64, frac: usize, back: bool, s: &[u8]) -> Number
 }
 
 // s is what follows the letter e.
-fn read_exponent(minus: bool, w: u64, frac: usize, s: &[u8]) -> Number
+fn read_exponent(minus: bool, w: u64, frac: usize, s: &[u8]) -> Result<f64, NumberError>
     requires { frac < 2 ^ 63 }
     ensures { result ≡ outcome (exponent minus w frac s.now) }
 {
     if s.len() == 0 {
-        return Number::Malformed;
+        return Err(NumberError::Malformed);
     }
     let b = s[0];
     match leaf_digits::class_of(b) {
@@ -150,12 +150,12 @@ fn read_exponent(minus: bool, w: u64, frac: usize, s: &[u8]) -> Number
 }
 
 // s is what follows the digits: `count` of them, `frac` of them after the point.
-fn read_ending(minus: bool, w: u64, count: usize, frac: usize, s: &[u8]) -> Number
+fn read_ending(minus: bool, w: u64, count: usize, frac: usize, s: &[u8]) -> Result<f64, NumberError>
     requires { frac < 2 ^ 63 }
     ensures { result ≡ outcome (ending minus w count frac s.now) }
 {
     if count == 0 {
-        return Number::Malformed;
+        return Err(NumberError::Malformed);
     }
     if s.len() == 0 {
         return valued(minus, w, 0, frac);
@@ -163,18 +163,18 @@ fn read_ending(minus: bool, w: u64, count: usize, frac: usize, s: &[u8]) -> Numb
     let b = s[0];
     match leaf_digits::class_of(b) {
         Class::Exponent => read_exponent(minus, w, frac, &s[1..]),
-        _ => Number::Malformed,
+        _ => Err(NumberError::Malformed),
     }
 }
 
 // s is what follows the digits before the point.
-fn read_point(minus: bool, w: u64, count: usize, s: &[u8]) -> Number
+fn read_point(minus: bool, w: u64, count: usize, s: &[u8]) -> Result<f64, NumberError>
     requires { (w ≤ cap) × (count < 2 ^ 63) }
     ensures { result ≡ outcome (point minus w count s.now) }
 {
     if s.len() == 0 {
         if count == 0 {
-            return Number::Malformed;
+            return Err(NumberError::Malformed);
         }
         return valued(minus, w, 0, 0);
     }
@@ -198,7 +198,7 @@ fn read_point(minus: bool, w: u64, count: usize, s: &[u8]) -> Number
 }
 
 // s is a number after its sign.
-fn read_unsigned(minus: bool, s: &[u8]) -> Number
+fn read_unsigned(minus: bool, s: &[u8]) -> Result<f64, NumberError>
     ensures { result ≡ outcome (unsigned minus s.now) }
 {
     let d = leaf_digits::leading(s, 0);
@@ -207,24 +207,24 @@ fn read_unsigned(minus: bool, s: &[u8]) -> Number
     // A text that begins with a digit is none of the three words.
     if n == 0 {
         if is_word(s, b"inf") {
-            return Number::Value(with_sign(minus, 1.0 / 0.0));
+            return Ok(with_sign(minus, 1.0 / 0.0));
         }
         if is_word(s, b"infinity") {
-            return Number::Value(with_sign(minus, 1.0 / 0.0));
+            return Ok(with_sign(minus, 1.0 / 0.0));
         }
         if is_word(s, b"nan") {
-            return Number::Value(0.0 / 0.0);
+            return Ok(0.0 / 0.0);
         }
     }
     read_point(minus, v, n, &s[n..])
 }
 
-pub fn read_number(s: &[u8]) -> Number
+pub fn read_number(s: &[u8]) -> Result<f64, NumberError>
     ensures value { result ≡ number_of s.now }
     ensures nearest { AsRead (reading_of s.now) result }
 {
     if s.len() == 0 {
-        return Number::Malformed;
+        return Err(NumberError::Malformed);
     }
     let b = s[0];
     match leaf_digits::class_of(b) {
@@ -235,13 +235,6 @@ pub fn read_number(s: &[u8]) -> Number
 
 // ---- a plain number, as most are written: digits, or digits, a point and digits, and then whitespace or the text's end
 
-// The number and how long it is, or the text begins otherwise.
-#[derive(Clone, Copy)]
-pub enum Plain {
-    Is(Number, usize),
-    Other,
-}
-
 // How far a plain number may reach: 19 digits stay below 2^64.
 fn places(len: usize) -> usize
     ensures { result ≡ min len 19 }
@@ -250,7 +243,7 @@ fn places(len: usize) -> usize
 }
 
 // The number that a text begins with, read while it is scanned.
-pub fn plain_number(s: &[u8]) -> Plain
+pub fn plain_number(s: &[u8]) -> Option<(Result<f64, NumberError>, usize)>
     ensures { Begins s.now result }
 {
     let to = places(s.len());
@@ -258,24 +251,24 @@ pub fn plain_number(s: &[u8]) -> Plain
     let n = d.end;
     let v = d.value;
     if n == 0 {
-        return Plain::Other;
+        return None;
     }
     if leaf_digits::ends_at(s, n) {
-        return Plain::Is(valued(false, v, 0, 0), n);
+        return Some((valued(false, v, 0, 0), n));
     }
     let k = leaf_digits::class_of(s[n]);
     let Class::Point = k else {
-        return Plain::Other;
+        return None;
     };
     let i = n + 1;
     let f = leaf_digits::few_digits(s, i, to, v);
     let e = f.end;
     let w = f.value;
     if e == i {
-        return Plain::Other;
+        return None;
     }
     if leaf_digits::ends_at(s, e) {
-        return Plain::Is(valued(false, w, 0, e - i), e);
+        return Some((valued(false, w, 0, e - i), e));
     }
-    Plain::Other
+    None
 }

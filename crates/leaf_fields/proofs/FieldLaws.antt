@@ -1,4 +1,5 @@
 -- The next field is the head of the fields; where fields stand; the fields of a line that is cut or moved. Assumes nothing.
+use Rattle.std.specs.Prelude.{None, Option, Some}
 use Prim.{Unit, tt}
 use Prim.Native.Nat.{ℕ, zero, suc, ◌+◌, ◌-◌, ◌≤◌, ◌<◌}
 use native.Mathlib.Omega.{arith}
@@ -15,8 +16,6 @@ use Rattle.leaf_scans.specs.Scan.{span_len}
 use Rattle.leaf_scans.specs.declared.Kind.TheVariants.{Space, Word}
 use Rattle.leaf_fields.specs.Fields.{Name, part, name_in, on_first, before, fields_of, fields_at, start_at, rest, end_or, Fits, Next, Past, opt_in, MayFit}
 use Rattle.leaf_fields.specs.declared.Span.{Span}
-use Rattle.leaf_fields.specs.declared.Field.{Field}
-use Rattle.leaf_fields.specs.declared.Field.TheVariants.{Taken, Nothing}
 use Rattle.leaf_scans.proofs.ScanLaws.{span-le, span-stop}
 use Rattle.leaf_scans.proofs.LineLaws.{cut-prefix}
 pub use Rattle.leaf_words.proofs.ScanLaws.{length_part, drop-take}
@@ -71,7 +70,7 @@ pub fields-word : (at : ℕ) (b : ℕ) (bs : List ℕ) → is_space b ≡ false 
 fields-word at b [] e = rw (span-word b [] e, fields-no at b [] e) (one at b)
 fields-word at b (x ∷ xs) e = word_more at b x xs (is_space x) e refl (fields-word (suc at) x xs)
 
-is-taken : {l : List ℕ} {at : ℕ} (s : Span) → fields_at l at ≡ name_in l s ∷ fields_at l s.end → Fits l s → Next l at (Taken s)
+is-taken : {l : List ℕ} {at : ℕ} (s : Span) → fields_at l at ≡ name_in l s ∷ fields_at l s.end → Fits l s → Next l at (Some s)
 is-taken {l} {at} s h k =
     record {
       taken = λ t e. let q : s ≡ t = cc in subst (λ (x : Span). (fields_at l at ≡ name_in l x ∷ fields_at l x.end) × Fits l x) q (h, k);
@@ -113,7 +112,7 @@ module _ (l : List ℕ) (at start end : ℕ) (es : start ≡ start_at l at) wher
   goes_on-law : start < length l → span_len Word (drop start l) ≡ suc (span_len Word (drop (suc start) l))
   goes_on-law h = ap (span_len Word) (drop-cons l start 0 h) ∙ span-word (get_or l start 0) (drop (suc start) l) (starts h)
 
-  pub next-taken : start < length l → end ≡ start + span_len Word (drop start l) → Next l at (Taken (record { at = start; end = end }))
+  pub next-taken : start < length l → end ≡ start + span_len Word (drop start l) → Next l at (Some (record { at = start; end = end }))
   next-taken h ee =
       let k : ℕ = span_len Word (drop start l) in
       let b : ℕ = get_or l start 0 in
@@ -125,14 +124,14 @@ module _ (l : List ℕ) (at start end : ℕ) (es : start ≡ start_at l at) wher
       is-taken (record { at = start; end = end }) (skipped ∙ f ∙ rw (drop-drop, e1, ee)) (record { some = omega arith; inside = omega (arith, span-le Word (drop start l)) })
 
   -- where the word's end was looked for from its second byte on
-  pub next-from : start < length l → end ≡ start + 1 + span_len Word (drop (start + 1) l) → Next l at (Taken (record { at = start; end = end }))
+  pub next-from : start < length l → end ≡ start + 1 + span_len Word (drop (start + 1) l) → Next l at (Some (record { at = start; end = end }))
   next-from h ee = let z : start + 1 ≡ suc start = omega arith in next-taken h (omega (arith, rw z at ee, goes_on-law h))
 
   -- where the bytes before the next whitespace were counted
-  pub next_word : start < length l → (n : ℕ) → n ≡ word_len (drop start l) → end ≡ start + n → Next l at (Taken (record { at = start; end = end }))
+  pub next_word : start < length l → (n : ℕ) → n ≡ word_len (drop start l) → end ≡ start + n → Next l at (Some (record { at = start; end = end }))
   next_word h n e ee = next-taken h (ee ∙ ap (start +◌) (e ∙ sym (span-counted (drop start l))))
 
-  pub next-nothing : length l ≤ start → Next l at Nothing
+  pub next-nothing : length l ≤ start → Next l at None
   unfolding fields_of
   next-nothing h = record { taken = λ s e. let z : ◌≡◌ {A = ℕ} 0 1 = cc in absurd (omega arith); nothing = λ e. skipped ∙ rw (drop_of_length-le l h) }
 
@@ -148,8 +147,8 @@ pub part_none : (a e : ℕ) (l : List ℕ) → e ≤ a → part a e l ≡ []
 part_none a e l h = let k : e - a ≡ 0 = omega arith in rw k
 
 -- ---- past the next field
-module _ (l : List ℕ) (at : ℕ) (f : Field) (n : Next l at f) where
-  pub past-taken : (s : Span) → f ≡ Taken s → Past l at s.end
+module _ (l : List ℕ) (at : ℕ) (f : Option Span) (n : Next l at f) where
+  pub past-taken : (s : Span) → f ≡ Some s → Past l at s.end
   past-taken s e =
       let (h, k) = n.taken s e in
       record {
@@ -157,7 +156,7 @@ module _ (l : List ℕ) (at : ℕ) (f : Field) (n : Next l at f) where
         left = sym (ap rest h);
       }
 
-  pub past-nothing : f ≡ Nothing → Past l at at
+  pub past-nothing : f ≡ None → Past l at at
   past-nothing e = let h = n.nothing e in record { place = sym (ap (end_or at) h); left = h ∙ sym (ap rest h) }
 
 -- ---- no second span or field fits
@@ -168,21 +167,21 @@ span-once l {s} {t} k j q =
     omega (arith, ap Name.at q, ap (λ (n : Name). length n.letters) q, length_part s.at s.end l k.inside, length_part t.at t.end l j.inside, k.some, j.some) in
     λ i. record { at = (q i).at; end = e i }
 
-pub opt-once : (l : List ℕ) (f g : Field) → MayFit l f → MayFit l g → opt_in l f ≡ opt_in l g → f ≡ g
-opt-once l (Taken s) (Taken t) k j q = ap Taken (span-once l k j (cc))
-opt-once l (Taken s) Nothing k j q = cc
-opt-once l Nothing (Taken t) k j q = cc
-opt-once l Nothing Nothing k j q = refl
+pub opt-once : (l : List ℕ) (f g : Option Span) → MayFit l f → MayFit l g → opt_in l f ≡ opt_in l g → f ≡ g
+opt-once l (Some s) (Some t) k j q = ap Some (span-once l k j (cc))
+opt-once l (Some s) None k j q = cc
+opt-once l None (Some t) k j q = cc
+opt-once l None None k j q = refl
 
 -- the next field is told in full
-pub next-unique : (l : List ℕ) (at : ℕ) (f g : Field) → Next l at f → Next l at g → f ≡ g
-next-unique l at (Taken s) (Taken t) n m =
+pub next-unique : (l : List ℕ) (at : ℕ) (f g : Option Span) → Next l at f → Next l at g → f ≡ g
+next-unique l at (Some s) (Some t) n m =
     let (h, k) = n.taken s refl in
     let (i, j) = m.taken t refl in
-    ap Taken (span-once l k j (cc))
-next-unique l at (Taken s) Nothing n m = cc ((n.taken s refl).0, m.nothing refl)
-next-unique l at Nothing (Taken t) n m = cc (n.nothing refl, (m.taken t refl).0)
-next-unique l at Nothing Nothing n m = refl
+    ap Some (span-once l k j (cc))
+next-unique l at (Some s) None n m = cc ((n.taken s refl).0, m.nothing refl)
+next-unique l at None (Some t) n m = cc (n.nothing refl, (m.taken t refl).0)
+next-unique l at None None n m = refl
 
 -- ---- where fields stand
 -- a name stands in the text, not before the place `from`, and is not empty

@@ -1,13 +1,10 @@
 -- Fields, as document 01 has them under "Lines and groups": "Fields are separated by whitespace; extra ones are ignored. A field is handed out as the part of the caller's text it is." Assumes nothing.
-use Rattle.std.specs.Prelude.{ℕ, suc, ◌+◌, ◌<◌, ◌≤◌, ◌≡◌, cond, List, [], ◌∷◌, length, drop}
-use Rattle.std.proofs.Math.Option.{Option, none, some}
+use Rattle.std.specs.Prelude.{ℕ, suc, ◌+◌, ◌<◌, ◌≤◌, ◌≡◌, cond, List, [], ◌∷◌, length, drop, None, Option, Some}
 use Rattle.leaf_scans.specs.Lines.{is_space}
 use Rattle.leaf_scans.specs.Scan.{span_len}
 use Rattle.leaf_scans.specs.declared.Kind.TheVariants.{Space}
 pub use Rattle.leaf_words.specs.Scan.{part}
 use Rattle.leaf_fields.specs.declared.Span.{Span}
-use Rattle.leaf_fields.specs.declared.Field.{Field}
-use Rattle.leaf_fields.specs.declared.Field.TheVariants.{Taken, Nothing}
 
 -- ---- names
 -- a name: where it stands in the text, and its bytes
@@ -47,12 +44,12 @@ abbrev pub rest : List Name → List Name
 rest [] = []
 rest (f ∷ fs) = fs
 
--- the bytes of the first field; or, where there is none, the other text
+-- the bytes of the first field; or, where there is None, the other text
 abbrev pub letters_or : List ℕ → List Name → List ℕ
 letters_or other [] = other
 letters_or other (f ∷ fs) = f.letters
 
--- where the first field ends; or, where there is none, the place `at`
+-- where the first field ends; or, where there is None, the place `at`
 abbrev pub end_or : ℕ → List Name → ℕ
 end_or at [] = at
 end_or at (f ∷ fs) = f.at + length f.letters
@@ -62,10 +59,10 @@ pub record Fits (l : List ℕ) (s : Span) : Type 0 where
   pub some : s.at < s.end
   pub inside : s.end ≤ length l
 
--- f is the next field of l from the place `at` on: the first of its fields there, with the others after it; or there is none
-pub record Next (l : List ℕ) (at : ℕ) (f : Field) : Type 0 where
-  pub taken : (s : Span) → f ≡ Taken s → (fields_at l at ≡ name_in l s ∷ fields_at l s.end) × Fits l s
-  pub nothing : f ≡ Nothing → fields_at l at ≡ []
+-- f is the next field of l from the place `at` on: the first of its fields there, with the others after it; or there is None
+pub record Next (l : List ℕ) (at : ℕ) (f : Option Span) : Type 0 where
+  pub taken : (s : Span) → f ≡ Some s → (fields_at l at ≡ name_in l s ∷ fields_at l s.end) × Fits l s
+  pub nothing : f ≡ None → fields_at l at ≡ []
 
 -- r is the place past the next field of l from the place `at` on: the fields from there on are the others
 pub record Past (l : List ℕ) (at r : ℕ) : Type 0 where
@@ -73,10 +70,10 @@ pub record Past (l : List ℕ) (at r : ℕ) : Type 0 where
   pub left : fields_at l r ≡ rest (fields_at l at)
 
 -- ---- a field that may be missing: the name that it is; it lies in l
-abbrev pub opt_in : List ℕ → Field → Option Name
-opt_in l (Taken s) = some (name_in l s)
-opt_in l Nothing = none
+abbrev pub opt_in : List ℕ → Option Span → Option Name
+opt_in l (Some s) = Some (name_in l s)
+opt_in l None = None
 
-abbrev pub MayFit : List ℕ → Field → Type 0
-MayFit l (Taken s) = Fits l s
-MayFit l Nothing = Unit
+abbrev pub MayFit : List ℕ → Option Span → Type 0
+MayFit l (Some s) = Fits l s
+MayFit l None = Unit

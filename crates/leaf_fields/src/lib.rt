@@ -13,12 +13,6 @@ pub struct Span {
     pub end: usize,
 }
 
-#[derive(Clone, Copy)]
-pub enum Field {
-    Taken(Span),
-    Nothing,
-}
-
 // The bytes of a span, as many as the text has.
 pub fn letters_of(l: &[u8], s: Span) -> &[u8]
     ensures { result.now ≡ part s.at s.end l.now }
@@ -37,22 +31,22 @@ pub fn field_start(l: &[u8], at: usize) -> usize
 }
 
 // The next field from `at` on. Where it starts stands no whitespace, so its end is looked for from the byte after.
-pub fn next_field(l: &[u8], at: usize) -> Field
+pub fn next_field(l: &[u8], at: usize) -> Option<Span>
     ensures { Next l.now at result }
 {
     let start = field_start(l, at);
     if start < l.len() {
         let end = leaf_scans::reach(l, start + 1, Kind::Word);
-        return Field::Taken(Span { at: start, end });
+        return Some(Span { at: start, end });
     }
-    Field::Nothing
+    None
 }
 
 // Where a field ends that was the next from `at` on: the fields from there on are the rest.
-pub fn field_end(f: Field, at: usize) -> usize
+pub fn field_end(f: Option<Span>, at: usize) -> usize
     ensures { (l : List ℕ) → Next l at f → Past l at result }
 {
-    let Field::Taken(s) = f else {
+    let Some(s) = f else {
         return at;
     };
     s.end
@@ -71,7 +65,7 @@ pub fn field_or<'a>(l: &'a [u8], at: usize, other: &'a [u8]) -> &'a [u8]
     ensures { result.now ≡ letters_or other.now (fields_at l.now at) }
 {
     let f = next_field(l, at);
-    let Field::Taken(s) = f else {
+    let Some(s) = f else {
         return other;
     };
     letters_of(l, s)

@@ -7,9 +7,8 @@ ghost use Rattle.leaf_counts.specs.Counts.{count_of, count_answer};
 ghost use Rattle.leaf_clock.specs.Times.{time_of, time_answer, seconds_in};
 ghost use Rattle.leaves.specs.Values.{value_in, whole_in};
 
-use leaf_clock::Time;
-use leaf_counts::Count;
-use leaf_decimals::Number;
+use leaf_clock::TimeError;
+use leaf_decimals::NumberError;
 
 #[unsafe(no_mangle)]
 pub extern "C" fn leaf_number(s: &[u8], out: &mut f64) -> u64
@@ -18,15 +17,15 @@ pub extern "C" fn leaf_number(s: &[u8], out: &mut f64) -> u64
 {
     let n = leaf_decimals::read_number(s);
     match n {
-        Number::Value(x) => {
+        Ok(x) => {
             *out = x;
             0
         }
-        Number::Malformed => {
+        Err(NumberError::Malformed) => {
             *out = 0.0;
             2
         }
-        Number::Beyond => {
+        Err(NumberError::Beyond) => {
             *out = 0.0;
             22
         }
@@ -40,11 +39,11 @@ pub extern "C" fn leaf_count(s: &[u8], out: &mut u64) -> u64
 {
     let n = leaf_counts::read_count(s);
     match n {
-        Count::Whole(x) => {
+        Some(x) => {
             *out = x;
             0
         }
-        Count::Uncounted => {
+        None => {
             *out = 0;
             2
         }
@@ -58,19 +57,19 @@ pub extern "C" fn leaf_time(time: &[u8], unit: &[u8], out: &mut u64) -> u64
 {
     let t = leaf_clock::read_time(time, unit);
     match t {
-        Time::Seconds(x) => {
+        Ok(x) => {
             *out = x;
             0
         }
-        Time::Malformed => {
+        Err(TimeError::Malformed) => {
             *out = 0;
             2
         }
-        Time::Beyond => {
+        Err(TimeError::Beyond) => {
             *out = 0;
             22
         }
-        Time::UnknownUnit => {
+        Err(TimeError::UnknownUnit) => {
             *out = 0;
             7
         }

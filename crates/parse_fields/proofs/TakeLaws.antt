@@ -1,4 +1,6 @@
 -- What was taken, from what the code was told. Assumes nothing.
+use Rattle.leaf_decimals.specs.declared.NumberError.{NumberError}
+use Rattle.std.specs.Prelude.{Err, None, Ok, Option, Result, Some}
 use Prim.Native.Nat.{ℕ, ◌+◌, ◌-◌, ◌<◌, ◌≤◌}
 use native.Mathlib.Omega.{arith}
 use mathlib.Core.Path.{◌≡◌, refl, sym, ap, ap₂, ◌∙◌, subst}
@@ -6,10 +8,7 @@ use mathlib.Core.List.{List, [], ◌∷◌}
 use lib.Ieee.{Float}
 use lib.ListN.{length, take, drop}
 use lib.Seq.{take_all}
-use Rattle.leaf_decimals.specs.declared.Number as N
-use Rattle.leaf_decimals.specs.declared.Number.TheVariants.{Value, Malformed, Beyond}
-use Rattle.leaf_decimals.specs.declared.Plain.{Plain}
-use Rattle.leaf_decimals.specs.declared.Plain.TheVariants.{Is}
+use Rattle.leaf_decimals.specs.declared.NumberError.TheVariants.{Malformed, Beyond}
 use Rattle.leaf_decimals.specs.Numbers.{number_of}
 use Rattle.leaf_decimals.specs.Begun.{Begins}
 use Rattle.leaf_digits.specs.Ends.{word_len}
@@ -18,71 +17,65 @@ use Rattle.leaf_fields.specs.Fields.{start_at}
 use Rattle.leaf_fields.specs.declared.Span.{Span}
 use Rattle.leaf_fields.specs.Fields.{Name, part, name_in, fields_at, rest, letters_or, Next}
 use Rattle.leaf_fields.proofs.FieldLaws.{length_part, skipped, word_over, next-nothing, next_word}
-use Rattle.leaf_fields.specs.declared.Field.{Field}
-use Rattle.leaf_fields.specs.declared.Field.TheVariants.{Taken, Nothing}
 use Rattle.scope.specs.declared.Reason.{Reason}
 use Rattle.scope.specs.declared.Reason.TheVariants as reason
 use Rattle.scope.specs.Values.{Read, bad, Took, took, refused, as_number, as_swallowed, number_from, number_or, swallowed_from, optional_from}
-use Rattle.parse_fields.specs.declared.TookNumber.{TookNumber}
-use Rattle.parse_fields.specs.declared.TookNumber.TheVariants.{NoNumber}
-use Rattle.parse_fields.specs.declared.NextNumber.{NextNumber}
-use Rattle.parse_fields.specs.declared.NextNumber.TheVariants as next
 use Rattle.parse_fields.specs.Taking.{took_number, number_took, reason_in, Numbered, opt_in, MayFit}
 
 -- what was taken, and why nothing was, once it is known which answer it was
-pub told-number : (l : List ℕ) {t u : TookNumber} {o : Took Float} → took_number l t ≡ o → t ≡ u → o ≡ took_number l u
+pub told-number : (l : List ℕ) {t u : Result (Float × ℕ) Reason} {o : Took Float} → took_number l t ≡ o → t ≡ u → o ≡ took_number l u
 told-number l h e = sym h ∙ ap (took_number l) e
 
-pub told-why : {A : Type 0} {t : TookNumber} {r why : Reason} → r ≡ reason_in t → t ≡ NoNumber why → ◌≡◌ {A = Read A} (bad why) (bad r)
+pub told-why : {A : Type 0} {t : Result (Float × ℕ) Reason} {r why : Reason} → r ≡ reason_in t → t ≡ Err why → ◌≡◌ {A = Read A} (bad why) (bad r)
 told-why h e = ap bad (sym (h ∙ ap reason_in e))
 
-pub took-as : (l : List ℕ) (n : N.Number) (next : ℕ) → took_number l (number_took n next) ≡ as_number n (fields_at l next)
-took-as l (Value x) next = refl
-took-as l Malformed next = refl
-took-as l Beyond next = refl
+pub took-as : (l : List ℕ) (n : Result Float NumberError) (next : ℕ) → took_number l (number_took n next) ≡ as_number n (fields_at l next)
+took-as l (Ok x) next = refl
+took-as l (Err Malformed) next = refl
+took-as l (Err Beyond) next = refl
 
 -- neither a value nor malformed
-pub beyond : (d : Float) (n : N.Number) (fs : List Name) → ((x : Float) → n ≡ Value x → ⊥) → (n ≡ Malformed → ⊥) → refused reason.BeyondReach ≡ as_swallowed d n fs
-beyond d (Value x) fs h k = absurd (h x refl)
-beyond d Malformed fs h k = absurd (k refl)
-beyond d Beyond fs h k = refl
+pub beyond : (d : Float) (n : Result Float NumberError) (fs : List Name) → ((x : Float) → n ≡ Ok x → ⊥) → (n ≡ Err Malformed → ⊥) → refused reason.BeyondReach ≡ as_swallowed d n fs
+beyond d (Ok x) fs h k = absurd (h x refl)
+beyond d (Err Malformed) fs h k = absurd (k refl)
+beyond d (Err Beyond) fs h k = refl
 
 -- ---- the number of the next field
-pub numbered-read : (l : List ℕ) (at : ℕ) (f : Field) → Next l at f → (s : Span) → f ≡ Taken s → (w : List ℕ) → w ≡ part s.at s.end l → (n : N.Number) → n ≡ number_of w
-    → Numbered l at (next.Is n s.end)
+pub numbered-read : (l : List ℕ) (at : ℕ) (f : Option Span) → Next l at f → (s : Span) → f ≡ Some s → (w : List ℕ) → w ≡ part s.at s.end l → (n : Result Float NumberError) → n ≡ number_of w
+    → Numbered l at (Some (n, s.end))
 numbered-read l at f h s e w ew n en = (name_in l s, (h.taken s e).0, en ∙ ap number_of ew)
 
 module _ (l : List ℕ) (at start : ℕ) (es : start ≡ start_at l at) where
   -- whitespace before it is passed over
-  pub numbered-from : (r : NextNumber) → Numbered l start r → Numbered l at r
-  numbered-from (next.Is n end) (f, h, e) = (f, skipped l at start 0 es ∙ h, e)
-  numbered-from next.Missing h = skipped l at start 0 es ∙ h
+  pub numbered-from : (r : Option (Result Float NumberError × ℕ)) → Numbered l start r → Numbered l at r
+  numbered-from (Some (n, end)) (f, h, e) = (f, skipped l at start 0 es ∙ h, e)
+  numbered-from None h = skipped l at start 0 es ∙ h
 
-  pub numbered-none : length l ≤ start → Numbered l at next.Missing
+  pub numbered-none : length l ≤ start → Numbered l at None
   numbered-none h = (next-nothing l at start 0 es h).nothing refl
 
-  begun : (n : N.Number) (len : ℕ) (p : Plain) → Begins (take (length l - start) (drop start l)) p → p ≡ Is n len → Begins (drop start l) (Is n len)
-  begun n len p b e = subst (λ (d : List ℕ). Begins d (Is n len)) (tail_of l start) (subst (Begins (take (length l - start) (drop start l))) e b)
+  begun : (n : Result Float NumberError) (len : ℕ) (p : Option (Result Float NumberError × ℕ)) → Begins (take (length l - start) (drop start l)) p → p ≡ Some (n, len) → Begins (drop start l) (Some (n, len))
+  begun n len p b e = subst (λ (d : List ℕ). Begins d (Some (n, len))) (tail_of l start) (subst (Begins (take (length l - start) (drop start l))) e b)
 
   -- read while it was scanned
-  pub numbered-plain : start < length l → (n : N.Number) (len : ℕ) (p : Plain) → Begins (take (length l - start) (drop start l)) p → p ≡ Is n len → Numbered l at (next.Is n (start + len))
+  pub numbered-plain : start < length l → (n : Result Float NumberError) (len : ℕ) (p : Option (Result Float NumberError × ℕ)) → Begins (take (length l - start) (drop start l)) p → p ≡ Some (n, len) → Numbered l at (Some (n, (start + len)))
   numbered-plain h n len p b e =
       let (k, q) = begun n len p b e in
       let z : start + len - start ≡ len = omega arith in
       numbered-read l at _ (next_word l at start (start + len) es h len k refl) (record { at = start; end = start + len }) refl (take len (drop start l)) (rw z) n q
 
   -- and where it ends inside the line, the whitespace behind it is passed over
-  pub numbered-over : start < length l → (n : N.Number) (len : ℕ) (p : Plain) → Begins (take (length l - start) (drop start l)) p → p ≡ Is n len → start + len < length l
-      → Numbered l at (next.Is n (start + len + 1))
+  pub numbered-over : start < length l → (n : Result Float NumberError) (len : ℕ) (p : Option (Result Float NumberError × ℕ)) → Begins (take (length l - start) (drop start l)) p → p ≡ Some (n, len) → start + len < length l
+      → Numbered l at (Some (n, (start + len + 1)))
   numbered-over h n len p b e i =
       let (f, k, q) = numbered-plain h n len p b e in
       (f, k ∙ ap (f ∷◌) (word_over l start len (begun n len p b e).0 i), q)
 
-  pub plain_fits : start < length l → (n : N.Number) (len : ℕ) (p : Plain) → Begins (take (length l - start) (drop start l)) p → p ≡ Is n len → start + len ≤ length l
+  pub plain_fits : start < length l → (n : Result Float NumberError) (len : ℕ) (p : Option (Result Float NumberError × ℕ)) → Begins (take (length l - start) (drop start l)) p → p ≡ Some (n, len) → start + len ≤ length l
   plain_fits h n len p b e = ((next_word l at start (start + len) es h len (begun n len p b e).0 refl).taken _ refl).1.inside
 
   -- ---- the number of a part that was handed out: the next field's, or the other text
-  module _ (other text : List ℕ) (et : text ≡ letters_or other (fields_at l start)) (n : N.Number) (en : n ≡ number_of text) where
+  module _ (other text : List ℕ) (et : text ≡ letters_or other (fields_at l start)) (n : Result Float NumberError) (en : n ≡ number_of text) where
     handed : text ≡ letters_or other (fields_at l at)
     handed = et ∙ sym (ap (letters_or other) (skipped l at start 0 es))
 
@@ -93,7 +86,7 @@ module _ (l : List ℕ) (at start : ℕ) (es : start ≡ start_at l at) where
         let (k, fit) = (next_word l at start end es h (word_len (drop start l)) refl refl).taken (record { at = start; end = end }) refl in
         let p : text ≡ part start end l = handed ∙ ap (letters_or other) k in
         let z : start + length text ≡ end = omega (arith, ap length p, length_part start end l fit.inside) in
-        rw (z, k) (took-as l n end ∙ ap (λ (x : N.Number). as_number x (fields_at l end)) (en ∙ ap number_of p))
+        rw (z, k) (took-as l n end ∙ ap (λ (x : Result Float NumberError). as_number x (fields_at l end)) (en ∙ ap number_of p))
 
     pub took-other : length l ≤ start → took_number l (number_took n at) ≡ number_or other (fields_at l at)
     took-other h =
@@ -101,32 +94,32 @@ module _ (l : List ℕ) (at start : ℕ) (es : start ≡ start_at l at) where
         took-as l n at ∙ ap₂ as_number (en ∙ ap number_of handed) refl ∙ rw k
 
 -- a plain number that is all of a text
-pub plain-whole : (s : List ℕ) (n : N.Number) (len : ℕ) (p : Plain) → Begins s p → p ≡ Is n len → len ≡ length s → n ≡ number_of s
+pub plain-whole : (s : List ℕ) (n : Result Float NumberError) (len : ℕ) (p : Option (Result Float NumberError × ℕ)) → Begins s p → p ≡ Some (n, len) → len ≡ length s → n ≡ number_of s
 plain-whole s n len p b e h = let (k, q) = subst (Begins s) e b in q ∙ ap number_of (take_all len s (omega (arith, h)))
 
-module _ (l : List ℕ) (at : ℕ) (r : NextNumber) (h : Numbered l at r) where
-  module _ (n : N.Number) (end : ℕ) (e : r ≡ next.Is n end) where
-    is : Numbered l at (next.Is n end)
+module _ (l : List ℕ) (at : ℕ) (r : Option (Result Float NumberError × ℕ)) (h : Numbered l at r) where
+  module _ (n : Result Float NumberError) (end : ℕ) (e : r ≡ Some (n, end)) where
+    is : Numbered l at (Some (n, end))
     is = subst (Numbered l at) e h
 
     pub took-next : took_number l (number_took n end) ≡ number_from (fields_at l at)
-    took-next = let (f, k, q) = is in rw k (took-as l n end ∙ ap (λ (x : N.Number). as_number x (fields_at l end)) q)
+    took-next = let (f, k, q) = is in rw k (took-as l n end ∙ ap (λ (x : Result Float NumberError). as_number x (fields_at l end)) q)
 
     pub swallowed-next : (d : Float) → as_swallowed d n (fields_at l end) ≡ swallowed_from d (fields_at l at)
-    swallowed-next d = let (f, k, q) = is in rw k (ap (λ (x : N.Number). as_swallowed d x (fields_at l end)) q)
+    swallowed-next d = let (f, k, q) = is in rw k (ap (λ (x : Result Float NumberError). as_swallowed d x (fields_at l end)) q)
 
-  pub took-none : r ≡ next.Missing → refused reason.Missing ≡ number_from (fields_at l at)
+  pub took-none : r ≡ None → refused reason.Missing ≡ number_from (fields_at l at)
   took-none e = sym (ap number_from (subst (Numbered l at) e h))
 
-  pub swallowed-none : r ≡ next.Missing → (d : Float) → took d (fields_at l at) ≡ swallowed_from d (fields_at l at)
+  pub swallowed-none : r ≡ None → (d : Float) → took d (fields_at l at) ≡ swallowed_from d (fields_at l at)
   swallowed-none e d = let k : fields_at l at ≡ [] = subst (Numbered l at) e h in rw k
 
 -- a field that may be there
 module _ {l : List ℕ} {at : ℕ} where
-  pub optional : (f : Field) → Next l at f → optional_from (fields_at l at) ≡ took (opt_in l f) (rest (fields_at l at))
-  optional (Taken s) n = rw (n.taken s refl).0
-  optional Nothing n = rw (n.nothing refl)
+  pub optional : (f : Option Span) → Next l at f → optional_from (fields_at l at) ≡ took (opt_in l f) (rest (fields_at l at))
+  optional (Some s) n = rw (n.taken s refl).0
+  optional None n = rw (n.nothing refl)
 
-  pub may-fit : (f : Field) → Next l at f → MayFit l f
-  may-fit (Taken s) n = (n.taken s refl).1
-  may-fit Nothing n = tt
+  pub may-fit : (f : Option Span) → Next l at f → MayFit l f
+  may-fit (Some s) n = (n.taken s refl).1
+  may-fit None n = tt

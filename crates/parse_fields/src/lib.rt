@@ -8,90 +8,67 @@ ghost use Rattle.leaf_fields.specs.Fields.{fields_at};
 ghost use Rattle.scope.specs.Values.{number_from, number_or, swallowed_from, flag_from};
 ghost use Rattle.parse_fields.specs.Taking.{took_number, took_flag, number_took, reason_in, Numbered};
 
-use leaf_decimals::{Number, Plain};
-use leaf_fields::Field;
+use leaf_decimals::{NumberError};
 use scope::Reason;
 
-// A number and a place from which on the other fields stand, or why there is none.
-#[derive(Clone, Copy)]
-pub enum TookNumber {
-    Number(f64, usize),
-    NoNumber(Reason),
-}
-
-#[derive(Clone, Copy)]
-pub enum TookFlag {
-    Flag(bool, usize),
-    NoFlag(Reason),
-}
-
-pub fn as_number(n: Number, next: usize) -> TookNumber
+pub fn as_number(n: Result<f64, NumberError>, next: usize) -> Result<(f64, usize), Reason>
     ensures { result ≡ number_took n next }
 {
     match n {
-        Number::Value(x) => TookNumber::Number(x, next),
-        Number::Malformed => TookNumber::NoNumber(Reason::Malformed),
-        Number::Beyond => TookNumber::NoNumber(Reason::BeyondReach),
+        Ok(x) => Ok((x, next)),
+        Err(NumberError::Malformed) => Err(Reason::Malformed),
+        Err(NumberError::Beyond) => Err(Reason::BeyondReach),
     }
 }
 
-// What number the next field is, and a place from which on the others stand.
-#[derive(Clone, Copy)]
-pub enum NextNumber {
-    Is(Number, usize),
-    Missing,
-}
-
-fn read_next(l: &[u8], at: usize) -> NextNumber
+fn read_next(l: &[u8], at: usize) -> Option<(Result<f64, NumberError>, usize)>
     ensures { Numbered l.now at result }
 {
     let f = leaf_fields::next_field(l, at);
-    let Field::Taken(s) = f else {
-        return NextNumber::Missing;
+    let Some(s) = f else {
+        return None;
     };
-    NextNumber::Is(
-        leaf_decimals::read_number(leaf_fields::letters_of(l, s)),
-        s.end,
-    )
+    Some((leaf_decimals::read_number(leaf_fields::letters_of(l, s)),
+        s.end))
 }
 
 // Most numbers are plain, and read while they are scanned.
-pub fn next_number(l: &[u8], at: usize) -> NextNumber
+pub fn next_number(l: &[u8], at: usize) -> Option<(Result<f64, NumberError>, usize)>
     ensures { Numbered l.now at result }
 {
     let start = leaf_fields::field_start(l, at);
     if start < l.len() {
         let p = leaf_decimals::plain_number(&l[start..]);
-        let Plain::Is(n, len) = p else {
+        let Some((n, len)) = p else {
             return read_next(l, start);
         };
         let end = start + len;
         // The byte there is whitespace, and was seen to be: what is taken next need not test it again.
         if end < l.len() {
-            return NextNumber::Is(n, end + 1);
+            return Some((n, end + 1));
         }
-        return NextNumber::Is(n, end);
+        return Some((n, end));
     }
-    NextNumber::Missing
+    None
 }
 
 // A number that must be there.
-pub fn take_number(l: &[u8], at: usize) -> TookNumber
+pub fn take_number(l: &[u8], at: usize) -> Result<(f64, usize), Reason>
     ensures { took_number l.now result ≡ number_from (fields_at l.now at) }
 {
     let f = next_number(l, at);
-    let NextNumber::Is(n, end) = f else {
-        return TookNumber::NoNumber(Reason::Missing);
+    let Some((n, end)) = f else {
+        return Err(Reason::Missing);
     };
     as_number(n, end)
 }
 
 // What number a text is that is one field. Most are plain here too.
-fn whole_number(s: &[u8]) -> Number
+fn whole_number(s: &[u8]) -> Result<f64, NumberError>
     ensures { result ≡ number_of s.now }
 {
     let p = leaf_decimals::plain_number(s);
-    let Plain::Is(n, len) = p else {
+    let Some((n, len)) = p else {
         return leaf_decimals::read_number(s);
     };
     if len == s.len() {
@@ -101,7 +78,7 @@ fn whole_number(s: &[u8]) -> Number
 }
 
 // A number that is read from the other text where it is missing. The field ends where the part of the line does that was handed out, so it is not scanned again.
-pub fn take_number_or<'a>(l: &'a [u8], at: usize, other: &'a [u8]) -> TookNumber
+pub fn take_number_or<'a>(l: &'a [u8], at: usize, other: &'a [u8]) -> Result<(f64, usize), Reason>
     ensures { took_number l.now result ≡ number_or other.now (fields_at l.now at) }
 {
     let start = leaf_fields::field_start(l, at);
@@ -115,46 +92,46 @@ pub fn take_number_or<'a>(l: &'a [u8], at: usize, other: &'a [u8]) -> TookNumber
 }
 
 // A number that is `other` where it is missing or malformed; one beyond reach is refused even here.
-pub fn take_swallowed(l: &[u8], at: usize, other: f64) -> TookNumber
+pub fn take_swallowed(l: &[u8], at: usize, other: f64) -> Result<(f64, usize), Reason>
     ensures { took_number l.now result ≡ swallowed_from other (fields_at l.now at) }
 {
     let f = next_number(l, at);
-    let NextNumber::Is(n, end) = f else {
-        return TookNumber::Number(other, at);
+    let Some((n, end)) = f else {
+        return Ok((other, at));
     };
-    let Number::Value(x) = n else {
-        let Number::Malformed = n else {
-            return TookNumber::NoNumber(Reason::BeyondReach);
+    let Ok(x) = n else {
+        let Err(NumberError::Malformed) = n else {
+            return Err(Reason::BeyondReach);
         };
-        return TookNumber::Number(other, end);
+        return Ok((other, end));
     };
-    TookNumber::Number(x, end)
+    Ok((x, end))
 }
 
 // Exactly true or false, false where it is missing.
-pub fn take_flag(l: &[u8], at: usize) -> TookFlag
+pub fn take_flag(l: &[u8], at: usize) -> Result<(bool, usize), Reason>
     ensures { took_flag l.now result ≡ flag_from (fields_at l.now at) }
 {
     let f = leaf_fields::next_field(l, at);
-    let Field::Taken(s) = f else {
-        return TookFlag::Flag(false, at);
+    let Some(s) = f else {
+        return Ok((false, at));
     };
     let word = leaf_fields::letters_of(l, s);
     if leaf_letters::equal(word, b"true") {
-        return TookFlag::Flag(true, s.end);
+        return Ok((true, s.end));
     }
     if leaf_letters::equal(word, b"false") {
-        return TookFlag::Flag(false, s.end);
+        return Ok((false, s.end));
     }
-    TookFlag::NoFlag(Reason::Malformed)
+    Err(Reason::Malformed)
 }
 
 // Why nothing was taken.
-pub fn reason_of(t: TookNumber) -> Reason
+pub fn reason_of(t: Result<(f64, usize), Reason>) -> Reason
     ensures { result ≡ reason_in t }
 {
     match t {
-        TookNumber::Number(_, _) => Reason::Missing,
-        TookNumber::NoNumber(why) => why,
+        Ok((_, _)) => Reason::Missing,
+        Err(why) => why,
     }
 }

@@ -1,4 +1,7 @@
 -- No second answer fits: two answers of `read_junction`, of `read_reservoir` or of `read_tank` that fit one line are the same, the places of the names too. Assumes nothing.
+use Rattle.parse_nodes.specs.declared.JunctionLine.{JunctionLine}
+use Rattle.scope.specs.declared.Reason.{Reason}
+use Rattle.std.specs.Prelude.{Err, Ok, Result}
 use Prim.Native.Nat.{ℕ}
 use mathlib.Core.Path.{◌≡◌, ap}
 use mathlib.Core.List.{List}
@@ -8,24 +11,22 @@ use Rattle.scope.specs.Records.{Node, Tank}
 use Rattle.scope.specs.Values.{Read}
 use Rattle.scope.specs.Nodes.{JunctionFields}
 use Rattle.parse_nodes.specs.Lines.{junction_in, JunctionAs, reservoir_in, tank_in, basin_in, NodeAs}
-use Rattle.parse_nodes.specs.declared.JunctionRead.{JunctionRead}
-use Rattle.parse_nodes.specs.declared.JunctionRead.TheVariants.{Junction, NoJunction}
 use Rattle.parse_nodes.specs.declared.NodeRead.{NodeRead}
 use Rattle.parse_nodes.specs.declared.NodeRead.TheVariants.{Reservoir, Basin, NoNode}
 
-pub junction-once : (l : List ℕ) (o : Read JunctionFields) (r s : JunctionRead) → JunctionAs l o r → JunctionAs l o s → r ≡ s
-junction-once l o (Junction x) (Junction y) (e, k, m) (f, j, n) =
+pub junction-once : (l : List ℕ) (o : Read JunctionFields) (r s : Result JunctionLine Reason) → JunctionAs l o r → JunctionAs l o s → r ≡ s
+junction-once l o (Ok x) (Ok y) (e, k, m) (f, j, n) =
     let h : junction_in l x ≡ junction_in l y = cc in
-    λ i. Junction (record {
+    λ i. Ok (record {
       id = span-once l k j (ap JunctionFields.id h) i;
       elevation = (h i).elevation;
       demand = (h i).demand;
       pattern = opt-once l x.pattern y.pattern m n (ap JunctionFields.pattern h) i;
       disabled = (h i).disabled;
     })
-junction-once l o (Junction x) (NoJunction why) (e, k, m) f = cc
-junction-once l o (NoJunction why) (Junction y) e (f, j, n) = cc
-junction-once l o (NoJunction why) (NoJunction also) e f = cc
+junction-once l o (Ok x) (Err why) (e, k, m) f = cc
+junction-once l o (Err why) (Ok y) e (f, j, n) = cc
+junction-once l o (Err why) (Err also) e f = cc
 
 within : {a b : records.Reservoir} → records.reservoir a ≡ records.reservoir b → a ≡ b
 within e = cc

@@ -1,5 +1,6 @@
 -- What the lines of JUNCTIONS, RESERVOIRS and TANKS say, and the code's answers as that. Assumes nothing.
-use Rattle.std.specs.Prelude.{ℕ, ◌≡◌, List}
+use Rattle.scope.specs.declared.Reason.{Reason}
+use Rattle.std.specs.Prelude.{ℕ, ◌≡◌, List, Err, Ok, Result}
 use Rattle.leaf_fields.specs.Fields.{name_in, Fits}
 use Rattle.scope.specs.declared.Tank as coded
 use Rattle.scope.specs.Records.{Node, Tank}
@@ -7,8 +8,6 @@ use Rattle.scope.specs.Values.{Read, good, bad}
 use Rattle.scope.specs.Nodes.{JunctionFields, reservoir_node, tank_node}
 use Rattle.parse_fields.specs.Taking.{opt_in, MayFit}
 use Rattle.parse_nodes.specs.declared.JunctionLine.{JunctionLine}
-use Rattle.parse_nodes.specs.declared.JunctionRead.{JunctionRead}
-use Rattle.parse_nodes.specs.declared.JunctionRead.TheVariants.{Junction, NoJunction}
 use Rattle.parse_nodes.specs.declared.ReservoirLine.{ReservoirLine}
 use Rattle.parse_nodes.specs.declared.TankLine.{TankLine}
 use Rattle.parse_nodes.specs.declared.NodeRead.{NodeRead}
@@ -18,9 +17,9 @@ use Rattle.parse_nodes.specs.declared.NodeRead.TheVariants.{Reservoir, Basin, No
 abbrev pub junction_in : List ℕ → JunctionLine → JunctionFields
 junction_in l j = record { id = name_in l j.id; elevation = j.elevation; demand = j.demand; pattern = opt_in l j.pattern; disabled = j.disabled }
 
-abbrev pub JunctionAs : List ℕ → Read JunctionFields → JunctionRead → Type 0
-JunctionAs l o (Junction j) = (o ≡ good (junction_in l j)) × Fits l j.id × MayFit l j.pattern
-JunctionAs l o (NoJunction why) = o ≡ bad why
+abbrev pub JunctionAs : List ℕ → Read JunctionFields → Result JunctionLine Reason → Type 0
+JunctionAs l o (Ok j) = (o ≡ good (junction_in l j)) × Fits l j.id × MayFit l j.pattern
+JunctionAs l o (Err why) = o ≡ bad why
 
 -- ---- a reservoir or a tank
 abbrev pub reservoir_in : List ℕ → ReservoirLine → Node

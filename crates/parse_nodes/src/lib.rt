@@ -5,8 +5,8 @@ ghost use Rattle.leaf_fields.specs.Fields.{fields_at};
 ghost use Rattle.scope.specs.Nodes.{junction_of, reservoir_of};
 ghost use Rattle.parse_nodes.specs.Lines.{JunctionAs, NodeAs};
 
-use leaf_fields::{Field, Span};
-use parse_fields::{TookFlag, TookNumber};
+use leaf_fields::{Span};
+
 use scope::{Reason, Tank};
 
 // ---- what the lines say
@@ -16,21 +16,15 @@ pub struct JunctionLine {
     pub id: Span,
     pub elevation: f64,
     pub demand: f64,
-    pub pattern: Field,
+    pub pattern: Option<Span>,
     pub disabled: bool,
-}
-
-#[derive(Clone, Copy)]
-pub enum JunctionRead {
-    Junction(JunctionLine),
-    NoJunction(Reason),
 }
 
 #[derive(Clone, Copy)]
 pub struct ReservoirLine {
     pub id: Span,
     pub elevation: f64,
-    pub pattern: Field,
+    pub pattern: Option<Span>,
 }
 
 #[derive(Clone, Copy)]
@@ -50,33 +44,33 @@ pub enum NodeRead {
 // ---- reading them
 
 // Id, elevation, demand, pattern, disabled. A missing elevation is read from the text 0.
-pub fn read_junction(l: &[u8], at: usize) -> JunctionRead
+pub fn read_junction(l: &[u8], at: usize) -> Result<JunctionLine, Reason>
     ensures { JunctionAs l.now (junction_of (fields_at l.now at)) result }
 {
     let f = leaf_fields::next_field(l, at);
-    let Field::Taken(id) = f else {
-        return JunctionRead::NoJunction(Reason::Missing);
+    let Some(id) = f else {
+        return Err(Reason::Missing);
     };
     let height = parse_fields::take_number_or(l, id.end, b"0");
-    let TookNumber::Number(elevation, at2) = height else {
-        return JunctionRead::NoJunction(parse_fields::reason_of(height));
+    let Ok((elevation, at2)) = height else {
+        return Err(parse_fields::reason_of(height));
     };
     let amount = parse_fields::take_swallowed(l, at2, 0.0);
-    let TookNumber::Number(demand, at3) = amount else {
-        return JunctionRead::NoJunction(parse_fields::reason_of(amount));
+    let Ok((demand, at3)) = amount else {
+        return Err(parse_fields::reason_of(amount));
     };
     let pattern = leaf_fields::next_field(l, at3);
     let at4 = leaf_fields::field_end(pattern, at3);
     let off = parse_fields::take_flag(l, at4);
     match off {
-        TookFlag::Flag(disabled, _) => JunctionRead::Junction(JunctionLine {
+        Ok((disabled, _)) => Ok(JunctionLine {
             id,
             elevation,
             demand,
             pattern,
             disabled,
         }),
-        TookFlag::NoFlag(why) => JunctionRead::NoJunction(why),
+        Err(why) => Err(why),
     }
 }
 
@@ -85,11 +79,11 @@ pub fn read_reservoir(l: &[u8], at: usize) -> NodeRead
     ensures { NodeAs l.now (reservoir_of (fields_at l.now at)) result }
 {
     let f = leaf_fields::next_field(l, at);
-    let Field::Taken(id) = f else {
+    let Some(id) = f else {
         return NodeRead::NoNode(Reason::Missing);
     };
     let height = parse_fields::take_number(l, id.end);
-    let TookNumber::Number(elevation, at2) = height else {
+    let Ok((elevation, at2)) = height else {
         return NodeRead::NoNode(parse_fields::reason_of(height));
     };
     let pattern = leaf_fields::next_field(l, at2);

@@ -6,20 +6,13 @@ ghost use Rattle.scope.specs.Nodes.{emitter_of};
 ghost use Rattle.scope.specs.Values.{pair_of};
 ghost use Rattle.parse_pairs.specs.Lines.{EmitterAs, PairAs};
 
-use leaf_fields::{Field, Span};
-use parse_fields::TookNumber;
+use leaf_fields::{Span};
 use scope::Reason;
 
 #[derive(Clone, Copy)]
 pub struct EmitterLine {
     pub id: Span,
     pub coefficient: f64,
-}
-
-#[derive(Clone, Copy)]
-pub enum EmitterRead {
-    Emitter(EmitterLine),
-    NoEmitter(Reason),
 }
 
 // An id and two numbers: what a line of CURVES or of COORDINATES says.
@@ -30,42 +23,36 @@ pub struct PairLine {
     pub y: f64,
 }
 
-#[derive(Clone, Copy)]
-pub enum PairRead {
-    Pair(PairLine),
-    NoPair(Reason),
-}
-
 // A junction and its coefficient.
-pub fn read_emitter(l: &[u8], at: usize) -> EmitterRead
+pub fn read_emitter(l: &[u8], at: usize) -> Result<EmitterLine, Reason>
     ensures { EmitterAs l.now (emitter_of (fields_at l.now at)) result }
 {
     let f = leaf_fields::next_field(l, at);
-    let Field::Taken(id) = f else {
-        return EmitterRead::NoEmitter(Reason::Missing);
+    let Some(id) = f else {
+        return Err(Reason::Missing);
     };
     let first = parse_fields::take_number(l, id.end);
     match first {
-        TookNumber::Number(coefficient, _) => EmitterRead::Emitter(EmitterLine { id, coefficient }),
-        TookNumber::NoNumber(why) => EmitterRead::NoEmitter(why),
+        Ok((coefficient, _)) => Ok(EmitterLine { id, coefficient }),
+        Err(why) => Err(why),
     }
 }
 
 // Id, x, y.
-pub fn read_pair(l: &[u8], at: usize) -> PairRead
+pub fn read_pair(l: &[u8], at: usize) -> Result<PairLine, Reason>
     ensures { PairAs l.now (pair_of (fields_at l.now at)) result }
 {
     let f = leaf_fields::next_field(l, at);
-    let Field::Taken(id) = f else {
-        return PairRead::NoPair(Reason::Missing);
+    let Some(id) = f else {
+        return Err(Reason::Missing);
     };
     let first = parse_fields::take_number(l, id.end);
-    let TookNumber::Number(x, at2) = first else {
-        return PairRead::NoPair(parse_fields::reason_of(first));
+    let Ok((x, at2)) = first else {
+        return Err(parse_fields::reason_of(first));
     };
     let second = parse_fields::take_number(l, at2);
     match second {
-        TookNumber::Number(y, _) => PairRead::Pair(PairLine { id, x, y }),
-        TookNumber::NoNumber(why) => PairRead::NoPair(why),
+        Ok((y, _)) => Ok(PairLine { id, x, y }),
+        Err(why) => Err(why),
     }
 }

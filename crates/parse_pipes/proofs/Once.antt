@@ -1,4 +1,7 @@
 -- No second answer fits: two answers of `read_names`, of `read_pipe` or of `read_valve` that fit one line are the same, the places of the names too. Assumes nothing.
+use Rattle.parse_pipes.specs.declared.LinkLine.{LinkLine}
+use Rattle.scope.specs.declared.Reason.{Reason}
+use Rattle.std.specs.Prelude.{Err, Ok, Result}
 use Prim.Native.Nat.{ℕ}
 use native.Mathlib.Omega.{arith}
 use mathlib.Core.Path.{◌≡◌, ap}
@@ -15,21 +18,17 @@ use Rattle.scope.specs.Links.{LinkFields}
 use Rattle.parse_fields.specs.Taking.{MayFit}
 use Rattle.parse_pipes.specs.Lines.{NamesFit, NamesAs, pipe_in, pump_in, valve_in, kind_in, KindFits, line_in, LinkAs}
 use Rattle.parse_pipes.specs.declared.LinkNames.{LinkNames}
-use Rattle.parse_pipes.specs.declared.NamesRead.{NamesRead}
-use Rattle.parse_pipes.specs.declared.NamesRead.TheVariants.{Names, NoNames}
-use Rattle.parse_pipes.specs.declared.LinkRead.{LinkRead}
-use Rattle.parse_pipes.specs.declared.LinkRead.TheVariants.{Line, NoLine}
 
 -- ---- the id and the two nodes
 three : (l : List ℕ) {a b : LinkNames} → NamesFit l a → NamesFit l b
     → name_in l a.id ≡ name_in l b.id → name_in l a.start ≡ name_in l b.start → name_in l a.end ≡ name_in l b.end → a ≡ b
 three l n m p q r = λ i. record { id = span-once l n.id m.id p i; start = span-once l n.start m.start q i; end = span-once l n.end m.end r i }
 
-pub names-once : (l : List ℕ) (fs : List Name) (r s : NamesRead) → NamesAs l fs r → NamesAs l fs s → r ≡ s
-names-once l fs (Names a) (Names b) (e, n) (f, m) = ap Names (three l n m (cc) (cc) (cc))
-names-once l fs (Names a) NoNames (e, n) f = absurd (omega (arith, ap length e))
-names-once l fs NoNames (Names b) e (f, m) = absurd (omega (arith, ap length f))
-names-once l fs NoNames NoNames e f = cc
+pub names-once : (l : List ℕ) (fs : List Name) (r s : Result LinkNames Reason) → NamesAs l fs r → NamesAs l fs s → r ≡ s
+names-once l fs (Ok a) (Ok b) (e, n) (f, m) = ap Ok (three l n m (cc) (cc) (cc))
+names-once l fs (Ok a) (Err reason.Missing) (e, n) f = absurd (omega (arith, ap length e))
+names-once l fs (Err reason.Missing) (Ok b) e (f, m) = absurd (omega (arith, ap length f))
+names-once l fs (Err reason.Missing) (Err reason.Missing) e f = cc
 
 -- ---- what kind a link is
 pub pump-same : (l : List ℕ) (p q : Pump) → MayFit l p.head → MayFit l q.head → pump_in l p ≡ pump_in l q → p ≡ q
@@ -57,13 +56,13 @@ kind-same l (kind.Valve p) (kind.Pipe q) m n e = cc
 kind-same l (kind.Valve p) (kind.Pump q) m n e = cc
 
 -- ---- a line of PIPES or VALVES
-pub link-once : (l : List ℕ) (o : Read LinkFields) (r s : LinkRead) → LinkAs l o r → LinkAs l o s → r ≡ s
-link-once l o (Line x) (Line y) (e, n, k) (f, m, j) =
+pub link-once : (l : List ℕ) (o : Read LinkFields) (r s : Result LinkLine Reason) → LinkAs l o r → LinkAs l o s → r ≡ s
+link-once l o (Ok x) (Ok y) (e, n, k) (f, m, j) =
     let h : line_in l x ≡ line_in l y = cc in
-    λ i. Line (record {
+    λ i. Ok (record {
       names = three l n m (ap LinkFields.id h) (ap LinkFields.start h) (ap LinkFields.end h) i;
       kind = kind-same l x.kind y.kind k j (ap LinkFields.kind h) i;
     })
-link-once l o (Line x) (NoLine why) (e, n, k) f = cc
-link-once l o (NoLine why) (Line y) e (f, m, j) = cc
-link-once l o (NoLine why) (NoLine also) e f = cc
+link-once l o (Ok x) (Err why) (e, n, k) f = cc
+link-once l o (Err why) (Ok y) e (f, m, j) = cc
+link-once l o (Err why) (Err also) e f = cc

@@ -1,5 +1,6 @@
 -- The code's answers as what document 01 says of a line of PIPES, PUMPS or VALVES; what the readers of pumps and of valves answer besides is in their crates. Assumes nothing.
-use Rattle.std.specs.Prelude.{ℕ, ◌<◌, ◌≡◌, List, ◌∷◌, length}
+use Rattle.scope.specs.declared.Reason.{Reason}
+use Rattle.std.specs.Prelude.{ℕ, ◌<◌, ◌≡◌, List, ◌∷◌, length, Err, Ok, Result}
 use Rattle.leaf_fields.specs.Fields.{Name, fields_at, name_in, Fits}
 use Rattle.scope.specs.declared.Pipe.{Pipe}
 use Rattle.scope.specs.declared.Pump.{Pump}
@@ -11,11 +12,7 @@ use Rattle.scope.specs.Values.{Read, good, bad}
 use Rattle.scope.specs.Links as scope
 use Rattle.parse_fields.specs.Taking.{opt_in, MayFit}
 use Rattle.parse_pipes.specs.declared.LinkNames.{LinkNames}
-use Rattle.parse_pipes.specs.declared.NamesRead.{NamesRead}
-use Rattle.parse_pipes.specs.declared.NamesRead.TheVariants.{Names, NoNames}
 use Rattle.parse_pipes.specs.declared.LinkLine.{LinkLine}
-use Rattle.parse_pipes.specs.declared.LinkRead.{LinkRead}
-use Rattle.parse_pipes.specs.declared.LinkRead.TheVariants.{Line, NoLine}
 
 -- ---- the id and the two nodes
 pub record NamesFit (l : List ℕ) (n : LinkNames) : Type 0 where
@@ -24,9 +21,9 @@ pub record NamesFit (l : List ℕ) (n : LinkNames) : Type 0 where
   pub end : Fits l n.end
 
 -- the first three of the fields; or there are fewer
-abbrev pub NamesAs : List ℕ → List Name → NamesRead → Type 0
-NamesAs l fs (Names n) = (fs ≡ name_in l n.id ∷ name_in l n.start ∷ name_in l n.end ∷ fields_at l n.end.end) × NamesFit l n
-NamesAs l fs NoNames = length fs < 3
+abbrev pub NamesAs : List ℕ → List Name → Result LinkNames Reason → Type 0
+NamesAs l fs (Ok n) = (fs ≡ name_in l n.id ∷ name_in l n.start ∷ name_in l n.end ∷ fields_at l n.end.end) × NamesFit l n
+NamesAs l fs (Err reason.Missing) = length fs < 3
 
 -- ---- what kind a link is
 abbrev pub pipe_in : Pipe → records.Pipe
@@ -53,6 +50,6 @@ KindFits l (kind.Valve v) = MayFit l v.curve
 abbrev pub line_in : List ℕ → LinkLine → scope.LinkFields
 line_in l x = scope.link_fields (name_in l x.names.id) (name_in l x.names.start) (name_in l x.names.end) (kind_in l x.kind)
 
-abbrev pub LinkAs : List ℕ → Read scope.LinkFields → LinkRead → Type 0
-LinkAs l o (Line x) = (o ≡ good (line_in l x)) × NamesFit l x.names × KindFits l x.kind
-LinkAs l o (NoLine why) = o ≡ bad why
+abbrev pub LinkAs : List ℕ → Read scope.LinkFields → Result LinkLine Reason → Type 0
+LinkAs l o (Ok x) = (o ≡ good (line_in l x)) × NamesFit l x.names × KindFits l x.kind
+LinkAs l o (Err why) = o ≡ bad why

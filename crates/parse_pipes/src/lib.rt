@@ -7,8 +7,7 @@ ghost use Rattle.leaf_fields.specs.Fields.{fields_at};
 ghost use Rattle.scope.specs.Links.{status_in, pipe_of};
 ghost use Rattle.parse_pipes.specs.Lines.{NamesAs, LinkAs};
 
-use leaf_fields::{Field, Span};
-use parse_fields::TookNumber;
+use leaf_fields::{Span};
 use scope::{LinkKind, Pipe, PipeStatus, Reason};
 
 // ---- what the lines say
@@ -22,43 +21,30 @@ pub struct LinkNames {
 }
 
 #[derive(Clone, Copy)]
-pub enum NamesRead {
-    Names(LinkNames),
-    NoNames,
-}
-
-#[derive(Clone, Copy)]
 pub struct LinkLine {
     pub names: LinkNames,
     pub kind: LinkKind,
 }
 
-// What a line of PIPES or VALVES says.
-#[derive(Clone, Copy)]
-pub enum LinkRead {
-    Line(LinkLine),
-    NoLine(Reason),
-}
-
 // ---- reading them
 
 // Three names; the fields after them are those from the end of the third on.
-pub fn read_names(l: &[u8], at: usize) -> NamesRead
+pub fn read_names(l: &[u8], at: usize) -> Result<LinkNames, Reason>
     ensures { NamesAs l.now (fields_at l.now at) result }
 {
     let f = leaf_fields::next_field(l, at);
-    let Field::Taken(id) = f else {
-        return NamesRead::NoNames;
+    let Some(id) = f else {
+        return Err(Reason::Missing);
     };
     let g = leaf_fields::next_field(l, id.end);
-    let Field::Taken(start) = g else {
-        return NamesRead::NoNames;
+    let Some(start) = g else {
+        return Err(Reason::Missing);
     };
     let h = leaf_fields::next_field(l, start.end);
-    let Field::Taken(end) = h else {
-        return NamesRead::NoNames;
+    let Some(end) = h else {
+        return Err(Reason::Missing);
     };
-    NamesRead::Names(LinkNames { id, start, end })
+    Ok(LinkNames { id, start, end })
 }
 
 // CV or CLOSED in any case, else open.
@@ -66,7 +52,7 @@ fn take_status(l: &[u8], at: usize) -> PipeStatus
     ensures { result ≡ status_in (fields_at l.now at) }
 {
     let f = leaf_fields::next_field(l, at);
-    let Field::Taken(s) = f else {
+    let Some(s) = f else {
         return PipeStatus::Open;
     };
     let word = leaf_fields::letters_of(l, s);
@@ -80,28 +66,28 @@ fn take_status(l: &[u8], at: usize) -> PipeStatus
 }
 
 // Id, two nodes, length, diameter, roughness, minor loss, status.
-pub fn read_pipe(l: &[u8], at: usize) -> LinkRead
+pub fn read_pipe(l: &[u8], at: usize) -> Result<LinkLine, Reason>
     ensures { LinkAs l.now (pipe_of (fields_at l.now at)) result }
 {
     let three = read_names(l, at);
-    let NamesRead::Names(names) = three else {
-        return LinkRead::NoLine(Reason::Missing);
+    let Ok(names) = three else {
+        return Err(Reason::Missing);
     };
     let first = parse_fields::take_number(l, names.end.end);
-    let TookNumber::Number(long, at2) = first else {
-        return LinkRead::NoLine(parse_fields::reason_of(first));
+    let Ok((long, at2)) = first else {
+        return Err(parse_fields::reason_of(first));
     };
     let second = parse_fields::take_number(l, at2);
-    let TookNumber::Number(diameter, at3) = second else {
-        return LinkRead::NoLine(parse_fields::reason_of(second));
+    let Ok((diameter, at3)) = second else {
+        return Err(parse_fields::reason_of(second));
     };
     let third = parse_fields::take_number(l, at3);
-    let TookNumber::Number(roughness, at4) = third else {
-        return LinkRead::NoLine(parse_fields::reason_of(third));
+    let Ok((roughness, at4)) = third else {
+        return Err(parse_fields::reason_of(third));
     };
     let fourth = parse_fields::take_swallowed(l, at4, 0.0);
-    let TookNumber::Number(minor, at5) = fourth else {
-        return LinkRead::NoLine(parse_fields::reason_of(fourth));
+    let Ok((minor, at5)) = fourth else {
+        return Err(parse_fields::reason_of(fourth));
     };
     let status = take_status(l, at5);
     let pipe = Pipe {
@@ -111,7 +97,7 @@ pub fn read_pipe(l: &[u8], at: usize) -> LinkRead
         minor,
         status,
     };
-    LinkRead::Line(LinkLine {
+    Ok(LinkLine {
         names,
         kind: LinkKind::Pipe(pipe),
     })

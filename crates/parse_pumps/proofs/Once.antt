@@ -1,4 +1,7 @@
 -- No second answer fits: two answers of `read_pairs` that fit one line are the same, the place of the curve too. Assumes nothing.
+use Rattle.scope.specs.declared.Pump.{Pump}
+use Rattle.scope.specs.declared.Reason.{Reason}
+use Rattle.std.specs.Prelude.{Err, Ok, Result}
 use Prim.Native.Nat.{ℕ}
 use mathlib.Core.Path.{◌≡◌, ap}
 use mathlib.Core.List.{List}
@@ -6,11 +9,9 @@ use Rattle.scope.specs.Records as records
 use Rattle.scope.specs.Values.{Read}
 use Rattle.parse_pipes.proofs.Once.{pump-same}
 use Rattle.parse_pumps.specs.Lines.{PumpAs}
-use Rattle.parse_pumps.specs.declared.PumpRead.{PumpRead}
-use Rattle.parse_pumps.specs.declared.PumpRead.TheVariants.{Pairs, NoPump}
 
-pub pump-once : (l : List ℕ) (o : Read records.Pump) (r s : PumpRead) → PumpAs l o r → PumpAs l o s → r ≡ s
-pump-once l o (Pairs p) (Pairs q) (e, m) (f, n) = ap Pairs (pump-same l p q m n (cc))
-pump-once l o (Pairs p) (NoPump why) (e, m) f = cc
-pump-once l o (NoPump why) (Pairs q) e (f, n) = cc
-pump-once l o (NoPump why) (NoPump also) e f = cc
+pub pump-once : (l : List ℕ) (o : Read records.Pump) (r s : Result Pump Reason) → PumpAs l o r → PumpAs l o s → r ≡ s
+pump-once l o (Ok p) (Ok q) (e, m) (f, n) = ap Ok (pump-same l p q m n (cc))
+pump-once l o (Ok p) (Err why) (e, m) f = cc
+pump-once l o (Err why) (Ok q) e (f, n) = cc
+pump-once l o (Err why) (Err also) e f = cc

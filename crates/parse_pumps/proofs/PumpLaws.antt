@@ -1,4 +1,6 @@
 -- The pairs of a pump. Assumes nothing.
+use Rattle.leaf_decimals.specs.declared.NumberError.{NumberError}
+use Rattle.std.specs.Prelude.{Ok, Result, Float}
 use Prim.Native.Nat.{ℕ, ◌<◌}
 use native.Mathlib.Omega.{arith}
 use mathlib.Core.Path.{◌≡◌, sym, ap, ◌∙◌, subst}
@@ -6,7 +8,6 @@ use mathlib.Core.Bool.{Bool, true, false}
 use mathlib.Core.List.{List, [], ◌∷◌}
 use lib.ListN.{length}
 use Rattle.leaf_decimals.specs.Numbers.{number_of}
-use Rattle.leaf_decimals.specs.declared.Number as N
 use Rattle.leaf_fields.specs.Fields.{Name}
 use Rattle.leaf_letters.specs.Words.{same}
 use Rattle.scope.specs.declared.Reason.{Reason}
@@ -19,8 +20,6 @@ use Rattle.parse_fields.specs.Taking.{MayFit}
 use Rattle.parse_pipes.specs.Lines.{pump_in}
 use Rattle.scope.specs.declared.Pump.{Pump}
 use Rattle.parse_pumps.specs.Lines.{PumpAs}
-use Rattle.parse_pumps.specs.declared.PumpRead.{PumpRead}
-use Rattle.parse_pumps.specs.declared.PumpRead.TheVariants.{Pairs}
 
 -- a test of a word that is part of the line
 pub told-word : (w : List ℕ) {a b : List ℕ} {r t : Bool} → a ≡ b → r ≡ same a w → r ≡ t → same b w ≡ t
@@ -28,7 +27,7 @@ told-word w e h k = rw (← e) (sym h ∙ k)
 
 -- what a word and its value make of a pump; n is the value's number, and m what is known of it
 module _ (p : records.Pump) (w v : Name) where
-  pub speed-pair : {n m : N.Number} → same w.letters word_speed ≡ true → n ≡ number_of v.letters → n ≡ m → with_pair p w v ≡ with_speed p (as_swallowed one_f m [])
+  pub speed-pair : {n m : Result Float NumberError} → same w.letters word_speed ≡ true → n ≡ number_of v.letters → n ≡ m → with_pair p w v ≡ with_speed p (as_swallowed one_f m [])
   unfolding with_pair
   speed-pair is en em = rw (is, sym en ∙ em)
 
@@ -38,7 +37,7 @@ module _ (p : records.Pump) (w v : Name) where
     head-pair is = rw (no-speed, is)
 
     module _ (no-head : same w.letters word_head ≡ false) where
-      pub power-pair : {n m : N.Number} → same w.letters word_power ≡ true → n ≡ number_of v.letters → n ≡ m → with_pair p w v ≡ with_power p (as_swallowed zero_f m [])
+      pub power-pair : {n m : Result Float NumberError} → same w.letters word_power ≡ true → n ≡ number_of v.letters → n ≡ m → with_pair p w v ≡ with_power p (as_swallowed zero_f m [])
       unfolding with_pair
       power-pair is en em = rw (no-speed, no-head, is, sym en ∙ em)
 
@@ -46,8 +45,8 @@ module _ (p : records.Pump) (w v : Name) where
       unfolding with_pair
       other-pair none = rw (no-speed, no-head, none)
 
-pub told-pump : (l : List ℕ) (o : Read records.Pump) {r r' : PumpRead} → r ≡ r' → PumpAs l o r → PumpAs l o r'
-told-pump l o e h = subst (λ (x : PumpRead). PumpAs l o x) e h
+pub told-pump : (l : List ℕ) (o : Read records.Pump) {r r' : Result Pump Reason} → r ≡ r' → PumpAs l o r → PumpAs l o r'
+told-pump l o e h = subst (λ (x : Result Pump Reason). PumpAs l o x) e h
 
 -- how far the loop has come: the pump of all the fields is the pump of those that are left, from what was read
 pub record Pairing (l : List ℕ) (fs gs : List Name) (p : Pump) : Type 0 where
@@ -55,12 +54,12 @@ pub record Pairing (l : List ℕ) (fs gs : List Name) (p : Pump) : Type 0 where
   pub fits : MayFit l p.head
 
 module _ {l : List ℕ} {fs gs : List Name} {p : Pump} (g : Pairing l fs gs p) where
-  pub none_left : gs ≡ [] → PumpAs l (pump_from no_pump fs) (Pairs p)
+  pub none_left : gs ≡ [] → PumpAs l (pump_from no_pump fs) (Ok p)
   unfolding pump_from
   none_left e = (g.whole ∙ rw e, g.fits)
 
   module _ {w : Name} {hs : List Name} (one : gs ≡ w ∷ hs) where
-    pub lone-left : hs ≡ [] → PumpAs l (pump_from no_pump fs) (Pairs p)
+    pub lone-left : hs ≡ [] → PumpAs l (pump_from no_pump fs) (Ok p)
     unfolding pump_from
     lone-left e = (g.whole ∙ rw (one, e), g.fits)
 

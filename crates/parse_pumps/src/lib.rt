@@ -7,18 +7,12 @@ ghost use Rattle.parse_fields.specs.Taking.{MayFit};
 ghost use Rattle.parse_pipes.specs.Lines.{pump_in};
 ghost use Rattle.parse_pumps.specs.Lines.{PumpAs};
 
-use leaf_decimals::Number;
-use leaf_fields::{Field, Span};
+use leaf_decimals::NumberError;
+use leaf_fields::{Span};
 use scope::{Pump, Reason};
 
-#[derive(Clone, Copy)]
-pub enum PumpRead {
-    Pairs(Pump),
-    NoPump(Reason),
-}
-
 // What a pump's word and its value make of the pump. A malformed number is swallowed; one beyond reach is refused even here.
-fn with_pair(l: &[u8], p: Pump, word: Span, value: Span) -> PumpRead
+fn with_pair(l: &[u8], p: Pump, word: Span, value: Span) -> Result<Pump, Reason>
     ensures { MayFit l.now p.head → Fits l.now value
         → PumpAs l.now (with_pair (pump_in l.now p) (name_in l.now word) (name_in l.now value)) result }
 {
@@ -27,23 +21,23 @@ fn with_pair(l: &[u8], p: Pump, word: Span, value: Span) -> PumpRead
     if leaf_letters::equal(name, b"SPEED") {
         let n = leaf_decimals::read_number(leaf_fields::letters_of(l, value));
         let power = p.power;
-        let Number::Value(speed) = n else {
-            let Number::Malformed = n else {
-                return PumpRead::NoPump(Reason::BeyondReach);
+        let Ok(speed) = n else {
+            let Err(NumberError::Malformed) = n else {
+                return Err(Reason::BeyondReach);
             };
-            return PumpRead::Pairs(Pump {
+            return Ok(Pump {
                 speed: 1.0,
                 head,
                 power,
             });
         };
-        return PumpRead::Pairs(Pump { speed, head, power });
+        return Ok(Pump { speed, head, power });
     }
     if leaf_letters::equal(name, b"HEAD") {
         let speed = p.speed;
         let power = p.power;
-        let curve = Field::Taken(value);
-        return PumpRead::Pairs(Pump {
+        let curve = Some(value);
+        return Ok(Pump {
             speed,
             head: curve,
             power,
@@ -52,26 +46,26 @@ fn with_pair(l: &[u8], p: Pump, word: Span, value: Span) -> PumpRead
     if leaf_letters::equal(name, b"POWER") {
         let n = leaf_decimals::read_number(leaf_fields::letters_of(l, value));
         let speed = p.speed;
-        let Number::Value(power) = n else {
-            let Number::Malformed = n else {
-                return PumpRead::NoPump(Reason::BeyondReach);
+        let Ok(power) = n else {
+            let Err(NumberError::Malformed) = n else {
+                return Err(Reason::BeyondReach);
             };
-            return PumpRead::Pairs(Pump {
+            return Ok(Pump {
                 speed,
                 head,
                 power: 0.0,
             });
         };
-        return PumpRead::Pairs(Pump { speed, head, power });
+        return Ok(Pump { speed, head, power });
     }
-    PumpRead::Pairs(p)
+    Ok(p)
 }
 
 // Pairs of a word and its value, from `at` on. A lone last word is ignored.
-pub fn read_pairs(l: &[u8], at: usize) -> PumpRead
+pub fn read_pairs(l: &[u8], at: usize) -> Result<Pump, Reason>
     ensures { PumpAs l.now (pump_from no_pump (fields_at l.now at)) result }
 {
-    let none = Field::Nothing;
+    let none = None;
     let mut p = Pump {
         speed: 1.0,
         head: none,
@@ -80,21 +74,21 @@ pub fn read_pairs(l: &[u8], at: usize) -> PumpRead
     let mut i = at;
     loop {
         let f = leaf_fields::next_field(l, i);
-        let Field::Taken(word) = f else {
-            return PumpRead::Pairs(p);
+        let Some(word) = f else {
+            return Ok(p);
         };
         let g = leaf_fields::next_field(l, word.end);
-        let Field::Taken(value) = g else {
-            return PumpRead::Pairs(p);
+        let Some(value) = g else {
+            return Ok(p);
         };
         let q = with_pair(l, p, word, value);
         match q {
-            PumpRead::Pairs(more) => {
+            Ok(more) => {
                 p = more;
                 i = value.end;
             }
-            PumpRead::NoPump(why) => {
-                return PumpRead::NoPump(why);
+            Err(why) => {
+                return Err(why);
             }
         }
     }

@@ -1,5 +1,8 @@
 -- No second answer fits. Two answers of `read_demand` that fit one line are the same, the places of the names too. Two of `read_pattern`, with slices of one length, refuse for the same
 -- reason or have the same id, the same count and the same first multipliers in the slices; from the places where the others start the same are read. Assumes nothing.
+use Rattle.parse_series.specs.declared.DemandLine.{DemandLine}
+use Rattle.scope.specs.declared.Reason.{Reason}
+use Rattle.std.specs.Prelude.{Err, Ok, Result}
 use Prim.Native.Nat.{ℕ}
 use native.Mathlib.Omega.{arith}
 use mathlib.Core.Path.{◌≡◌, sym, ap, ◌∙◌}
@@ -12,10 +15,6 @@ use Rattle.scope.specs.Values.{Read}
 use Rattle.scope.specs.Series.{multipliers_of, PatternFields, DemandFields}
 use Rattle.parse_series.specs.Lines.{PatternAs, demand_in, DemandAs}
 use Rattle.parse_series.specs.declared.PatternLine.{PatternLine}
-use Rattle.parse_series.specs.declared.PatternRead.{PatternRead}
-use Rattle.parse_series.specs.declared.PatternRead.TheVariants.{Pattern, NoPattern}
-use Rattle.parse_series.specs.declared.DemandRead.{DemandRead}
-use Rattle.parse_series.specs.declared.DemandRead.TheVariants.{Demand, NoDemand}
 
 -- ---- a pattern
 pub record Alike (l : List ℕ) (f g : List Float) (p q : PatternLine) : Type 0 where
@@ -24,15 +23,15 @@ pub record Alike (l : List ℕ) (f g : List Float) (p q : PatternLine) : Type 0 
   pub kept : take p.count f ≡ take q.count g
   pub left : multipliers_of (fields_at l p.rest) ≡ multipliers_of (fields_at l q.rest)
 
-abbrev pub AlikeRead : List ℕ → List Float → List Float → PatternRead → PatternRead → Type 0
-AlikeRead l f g (Pattern p) (Pattern q) = Alike l f g p q
-AlikeRead l f g (Pattern p) (NoPattern why) = ⊥
-AlikeRead l f g (NoPattern why) (Pattern q) = ⊥
-AlikeRead l f g (NoPattern why) (NoPattern also) = why ≡ also
+abbrev pub AlikeRead : List ℕ → List Float → List Float → Result PatternLine Reason → Result PatternLine Reason → Type 0
+AlikeRead l f g (Ok p) (Ok q) = Alike l f g p q
+AlikeRead l f g (Ok p) (Err why) = ⊥
+AlikeRead l f g (Err why) (Ok q) = ⊥
+AlikeRead l f g (Err why) (Err also) = why ≡ also
 
-pub pattern-once : (l : List ℕ) (o : Read PatternFields) (f g : List Float) (r s : PatternRead) → length f ≡ length g
+pub pattern-once : (l : List ℕ) (o : Read PatternFields) (f g : List Float) (r s : Result PatternLine Reason) → length f ≡ length g
     → PatternAs l f o r → PatternAs l g o s → AlikeRead l f g r s
-pattern-once l o f g (Pattern p) (Pattern q) n a b =
+pattern-once l o f g (Ok p) (Ok q) n a b =
     let h : ◌≡◌ {A = PatternFields} (record { id = name_in l p.id; values = a.values }) (record { id = name_in l q.id; values = b.values }) = cc (a.whole, b.whole) in
     let v : a.values ≡ b.values = ap PatternFields.values h in
     record {
@@ -41,19 +40,19 @@ pattern-once l o f g (Pattern p) (Pattern q) n a b =
       kept = a.read.kept ∙ (cc) ∙ sym b.read.kept;
       left = a.read.left ∙ (cc) ∙ sym b.read.left;
     }
-pattern-once l o f g (Pattern p) (NoPattern why) n a b = let z : ◌≡◌ {A = ℕ} 0 1 = cc a.whole in absurd (omega arith)
-pattern-once l o f g (NoPattern why) (Pattern q) n a b = let z : ◌≡◌ {A = ℕ} 0 1 = cc b.whole in absurd (omega arith)
-pattern-once l o f g (NoPattern why) (NoPattern also) n a b = cc
+pattern-once l o f g (Ok p) (Err why) n a b = let z : ◌≡◌ {A = ℕ} 0 1 = cc a.whole in absurd (omega arith)
+pattern-once l o f g (Err why) (Ok q) n a b = let z : ◌≡◌ {A = ℕ} 0 1 = cc b.whole in absurd (omega arith)
+pattern-once l o f g (Err why) (Err also) n a b = cc
 
 -- ---- a demand
-pub demand-once : (l : List ℕ) (o : Read DemandFields) (r s : DemandRead) → DemandAs l o r → DemandAs l o s → r ≡ s
-demand-once l o (Demand x) (Demand y) (e, k, m) (f, j, n) =
+pub demand-once : (l : List ℕ) (o : Read DemandFields) (r s : Result DemandLine Reason) → DemandAs l o r → DemandAs l o s → r ≡ s
+demand-once l o (Ok x) (Ok y) (e, k, m) (f, j, n) =
     let h : demand_in l x ≡ demand_in l y = cc in
-    λ i. Demand (record {
+    λ i. Ok (record {
       id = span-once l k j (ap DemandFields.id h) i;
       base = (h i).base;
       pattern = opt-once l x.pattern y.pattern m n (ap DemandFields.pattern h) i;
     })
-demand-once l o (Demand x) (NoDemand why) (e, k, m) f = cc
-demand-once l o (NoDemand why) (Demand y) e (f, j, n) = cc
-demand-once l o (NoDemand why) (NoDemand also) e f = cc
+demand-once l o (Ok x) (Err why) (e, k, m) f = cc
+demand-once l o (Err why) (Ok y) e (f, j, n) = cc
+demand-once l o (Err why) (Err also) e f = cc

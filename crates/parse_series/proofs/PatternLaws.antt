@@ -1,4 +1,6 @@
 -- A loop over the multipliers of a line. Assumes nothing.
+use Rattle.leaf_decimals.specs.declared.NumberError.{NumberError}
+use Rattle.std.specs.Prelude.{Err, Ok, Result}
 use Prim.Native.Nat.{ℕ, suc, ◌+◌, ◌≤◌, ◌<◌}
 use native.Mathlib.Omega.{arith}
 use native.Mathlib.Numerals.{add-one}
@@ -9,18 +11,15 @@ use lib.ListN.{length, take, drop, set, length-append, length-drop, length-set, 
 use lib.Seq.{take-nil, drop-nil, take_all, take-append-le, drop-append-le, take-suc-set}
 use lib.Ieee.{Float}
 use Rattle.leaf_decimals.specs.Numbers.{number_of}
-use Rattle.leaf_decimals.specs.declared.Number as D
-use Rattle.leaf_decimals.specs.declared.Number.TheVariants.{Value, Malformed, Beyond}
+use Rattle.leaf_decimals.specs.declared.NumberError.TheVariants.{Malformed, Beyond}
 use Rattle.leaf_scans.specs.Lines.{is_space}
 use Rattle.leaf_fields.specs.Fields.{Name, on_first, before, fields_of, fields_at}
 use Rattle.scope.specs.declared.Reason.{Reason}
 use Rattle.scope.specs.declared.Reason.TheVariants as reason
 use Rattle.scope.specs.Values.{Read, good, bad, on_read}
 use Rattle.scope.specs.Series.{multipliers_of}
-use Rattle.parse_fields.specs.declared.TookNumber.TheVariants.{Number, NoNumber}
 use Rattle.parse_fields.specs.Taking.{number_took}
 use Rattle.parse_series.specs.Lines.{CountedAs}
-use Rattle.parse_series.specs.declared.Counted.TheVariants.{Count}
 
 -- there are no more fields than bytes
 before-le : (at b : ℕ) (bs : List ℕ) (fs : List Name) → length (before at b bs fs) ≤ suc (length fs)
@@ -51,18 +50,18 @@ line-le l at = omega (arith, fields_le at (drop at l), length-drop at l)
 
 -- a field that is a number, and one that is none
 module _ (f : Name) (fs : List Name) where
-  with_number : (n : D.Number) (x : Float) (e next : ℕ) → number_of f.letters ≡ n → number_took n e ≡ Number x next
+  with_number : (n : Result Float NumberError) (x : Float) (e next : ℕ) → number_of f.letters ≡ n → number_took n e ≡ Ok (x, next)
       → (multipliers_of (f ∷ fs) ≡ on_read (multipliers_of fs) (λ xs. good (x ∷ xs))) × (e ≡ next)
   unfolding multipliers_of
-  with_number (Value y) x e next q h = let a : y ≡ x = cc in let b : e ≡ next = cc in (rw (q, a), b)
-  with_number Malformed x e next q h = absurd (let z : ◌≡◌ {A = ℕ} 0 1 = cc in omega arith)
-  with_number Beyond x e next q h = absurd (let z : ◌≡◌ {A = ℕ} 0 1 = cc in omega arith)
+  with_number (Ok y) x e next q h = let a : y ≡ x = cc in let b : e ≡ next = cc in (rw (q, a), b)
+  with_number (Err Malformed) x e next q h = absurd (let z : ◌≡◌ {A = ℕ} 0 1 = cc in omega arith)
+  with_number (Err Beyond) x e next q h = absurd (let z : ◌≡◌ {A = ℕ} 0 1 = cc in omega arith)
 
-  no_number : (n : D.Number) (why : Reason) (e : ℕ) → number_of f.letters ≡ n → number_took n e ≡ NoNumber why → multipliers_of (f ∷ fs) ≡ bad why
+  no_number : (n : Result Float NumberError) (why : Reason) (e : ℕ) → number_of f.letters ≡ n → number_took n e ≡ Err why → multipliers_of (f ∷ fs) ≡ bad why
   unfolding multipliers_of
-  no_number (Value y) why e q h = absurd (let z : ◌≡◌ {A = ℕ} 0 1 = cc in omega arith)
-  no_number Malformed why e q h = let a : reason.Malformed ≡ why = cc in rw (q, a)
-  no_number Beyond why e q h = let a : reason.BeyondReach ≡ why = cc in rw (q, a)
+  no_number (Ok y) why e q h = absurd (let z : ◌≡◌ {A = ℕ} 0 1 = cc in omega arith)
+  no_number (Err Malformed) why e q h = let a : reason.Malformed ≡ why = cc in rw (q, a)
+  no_number (Err Beyond) why e q h = let a : reason.BeyondReach ≡ why = cc in rw (q, a)
 
 -- how far the loop has come: n multipliers of the fields fs are read, and the first r of them are kept; the fields gs are left, and past those that are kept, the fields hs
 pub record Going (fs gs hs : List Name) (r : ℕ) (first : List Float) (n : ℕ) : Type 0 where
@@ -97,7 +96,7 @@ start-going fs first =
 
 module _ {fs gs hs : List Name} {r : ℕ} {first : List Float} {n : ℕ} (g : Going fs gs hs r first n) where
   -- one more number: the next field f ends at e
-  module _ (l : List ℕ) (f : Name) (e next : ℕ) (x : Float) (q : gs ≡ f ∷ fields_at l e) (h : number_took (number_of f.letters) e ≡ Number x next) where
+  module _ (l : List ℕ) (f : Name) (e next : ℕ) (x : Float) (q : gs ≡ f ∷ fields_at l e) (h : number_took (number_of f.letters) e ≡ Ok (x, next)) where
     abbrev more : List Float
     more = g.done ++ (x ∷ [])
 
@@ -146,10 +145,10 @@ module _ {fs gs hs : List Name} {r : ℕ} {first : List Float} {n : ℕ} (g : Go
           left = rw (drop-append-le r g.done (x ∷ []) (omega (arith, g.long))) (then (drop r g.done) (multipliers_of hs) g.left);
         }
 
-  pub bad-going : (l : List ℕ) (f : Name) (e : ℕ) (why : Reason) → gs ≡ f ∷ fields_at l e → number_took (number_of f.letters) e ≡ NoNumber why → multipliers_of fs ≡ bad why
+  pub bad-going : (l : List ℕ) (f : Name) (e : ℕ) (why : Reason) → gs ≡ f ∷ fields_at l e → number_took (number_of f.letters) e ≡ Err why → multipliers_of fs ≡ bad why
   bad-going l f e why q h = g.whole ∙ rw (q, no_number f (fields_at l e) (number_of f.letters) why e refl h)
 
 pub done-going : {fs gs : List Name} {r : ℕ} {first : List Float} {n : ℕ} (l : List ℕ) (rest : ℕ) → Going fs gs (fields_at l rest) r first n → gs ≡ []
-    → CountedAs l first (multipliers_of fs) (Count n rest)
+    → CountedAs l first (multipliers_of fs) (Ok (n, rest))
 unfolding multipliers_of
 done-going l rest g e = (g.done, g.whole ∙ rw (e, append-nil), record { long = g.long; kept = rw g.room g.kept; left = rw g.room (g.left ∙ rw (e, append-nil)) })

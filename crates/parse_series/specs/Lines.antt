@@ -1,17 +1,12 @@
 -- The code's answers as what scope says of a line of PATTERNS or DEMANDS. Assumes nothing.
-use Rattle.std.specs.Prelude.{ℕ, ◌≡◌, List, length, take, drop, Float}
+use Rattle.scope.specs.declared.Reason.{Reason}
+use Rattle.std.specs.Prelude.{ℕ, ◌≡◌, List, length, take, drop, Float, Err, Ok, Result}
 use Rattle.leaf_fields.specs.Fields.{fields_at, name_in, Fits}
 use Rattle.scope.specs.Values.{Read, good, bad}
 use Rattle.scope.specs.Series.{multipliers_of, PatternFields, DemandFields}
 use Rattle.parse_fields.specs.Taking.{opt_in, MayFit}
 use Rattle.parse_series.specs.declared.PatternLine.{PatternLine}
-use Rattle.parse_series.specs.declared.PatternRead.{PatternRead}
-use Rattle.parse_series.specs.declared.PatternRead.TheVariants.{Pattern, NoPattern}
-use Rattle.parse_series.specs.declared.Counted.{Counted}
-use Rattle.parse_series.specs.declared.Counted.TheVariants.{Count, NoCount}
 use Rattle.parse_series.specs.declared.DemandLine.{DemandLine}
-use Rattle.parse_series.specs.declared.DemandRead.{DemandRead}
-use Rattle.parse_series.specs.declared.DemandRead.TheVariants.{Demand, NoDemand}
 
 -- ---- a pattern's line
 -- the multipliers xs of a line l: how many there are, the first of them, as many as a slice has room for, and the place where the others start
@@ -21,9 +16,9 @@ pub record Multipliers (l : List ℕ) (first : List Float) (count rest : ℕ) (x
   pub left : multipliers_of (fields_at l rest) ≡ good (drop (length first) xs)
 
 -- the multipliers, or the reason of a refusal
-abbrev pub CountedAs : List ℕ → List Float → Read (List Float) → Counted → Type 0
-CountedAs l first o (Count n rest) = (xs : List Float) × (o ≡ good xs) × Multipliers l first n rest xs
-CountedAs l first o (NoCount why) = o ≡ bad why
+abbrev pub CountedAs : List ℕ → List Float → Read (List Float) → Result (ℕ × ℕ) Reason → Type 0
+CountedAs l first o (Ok (n, rest)) = (xs : List Float) × (o ≡ good xs) × Multipliers l first n rest xs
+CountedAs l first o (Err why) = o ≡ bad why
 
 -- the id and the multipliers
 pub record PatternIs (l : List ℕ) (first : List Float) (o : Read PatternFields) (p : PatternLine) : Type 0 where
@@ -32,14 +27,14 @@ pub record PatternIs (l : List ℕ) (first : List Float) (o : Read PatternFields
   pub read : Multipliers l first p.count p.rest values
   pub fits : Fits l p.id
 
-abbrev pub PatternAs : List ℕ → List Float → Read PatternFields → PatternRead → Type 0
-PatternAs l first o (Pattern p) = PatternIs l first o p
-PatternAs l first o (NoPattern why) = o ≡ bad why
+abbrev pub PatternAs : List ℕ → List Float → Read PatternFields → Result PatternLine Reason → Type 0
+PatternAs l first o (Ok p) = PatternIs l first o p
+PatternAs l first o (Err why) = o ≡ bad why
 
 -- ---- a demand
 abbrev pub demand_in : List ℕ → DemandLine → DemandFields
 demand_in l d = record { id = name_in l d.id; base = d.base; pattern = opt_in l d.pattern }
 
-abbrev pub DemandAs : List ℕ → Read DemandFields → DemandRead → Type 0
-DemandAs l o (Demand d) = (o ≡ good (demand_in l d)) × Fits l d.id × MayFit l d.pattern
-DemandAs l o (NoDemand why) = o ≡ bad why
+abbrev pub DemandAs : List ℕ → Read DemandFields → Result DemandLine Reason → Type 0
+DemandAs l o (Ok d) = (o ≡ good (demand_in l d)) × Fits l d.id × MayFit l d.pattern
+DemandAs l o (Err why) = o ≡ bad why

@@ -7,23 +7,22 @@ ghost use Rattle.scope.specs.Nodes.{tank_of, levels_of, curve_in, overflow_in};
 ghost use Rattle.parse_nodes.specs.Lines.{NodeAs};
 ghost use Rattle.parse_tanks.specs.Lines.{CurveAs};
 
-use leaf_fields::{Field, Span};
-use parse_fields::TookNumber;
+use leaf_fields::{Span};
 use parse_nodes::{NodeRead, ReservoirLine, TankLine};
 use scope::{Reason, Tank};
 
 // A tank's curve: `*` is none.
-fn take_curve(l: &[u8], at: usize) -> Field
+fn take_curve(l: &[u8], at: usize) -> Option<Span>
     ensures { CurveAs l.now (curve_in (fields_at l.now at)) result }
 {
     let f = leaf_fields::next_field(l, at);
-    let Field::Taken(s) = f else {
-        return Field::Nothing;
+    let Some(s) = f else {
+        return None;
     };
     if leaf_letters::equal(leaf_fields::letters_of(l, s), b"*") {
-        return Field::Nothing;
+        return None;
     }
-    Field::Taken(s)
+    Some(s)
 }
 
 // Whether a tank may overflow: YES in any case.
@@ -31,7 +30,7 @@ fn take_overflow(l: &[u8], at: usize) -> bool
     ensures { result ≡ overflow_in (fields_at l.now at) }
 {
     let f = leaf_fields::next_field(l, at);
-    let Field::Taken(s) = f else {
+    let Some(s) = f else {
         return false;
     };
     leaf_letters::spells(leaf_fields::letters_of(l, s), b"YES")
@@ -42,23 +41,23 @@ fn read_levels(l: &[u8], at: usize, id: Span, elevation: f64) -> NodeRead
     ensures { Fits l.now id → NodeAs l.now (levels_of (name_in l.now id) elevation (fields_at l.now at)) result }
 {
     let first = parse_fields::take_number(l, at);
-    let TookNumber::Number(initial, at2) = first else {
+    let Ok((initial, at2)) = first else {
         return NodeRead::NoNode(parse_fields::reason_of(first));
     };
     let second = parse_fields::take_number(l, at2);
-    let TookNumber::Number(minimum, at3) = second else {
+    let Ok((minimum, at3)) = second else {
         return NodeRead::NoNode(parse_fields::reason_of(second));
     };
     let third = parse_fields::take_number(l, at3);
-    let TookNumber::Number(maximum, at4) = third else {
+    let Ok((maximum, at4)) = third else {
         return NodeRead::NoNode(parse_fields::reason_of(third));
     };
     let fourth = parse_fields::take_number(l, at4);
-    let TookNumber::Number(diameter, at5) = fourth else {
+    let Ok((diameter, at5)) = fourth else {
         return NodeRead::NoNode(parse_fields::reason_of(fourth));
     };
     let fifth = parse_fields::take_number_or(l, at5, b"0");
-    let TookNumber::Number(volume, at6) = fifth else {
+    let Ok((volume, at6)) = fifth else {
         return NodeRead::NoNode(parse_fields::reason_of(fifth));
     };
     let curve = take_curve(l, at6);
@@ -82,17 +81,17 @@ pub fn read_tank(l: &[u8], at: usize) -> NodeRead
     ensures { NodeAs l.now (tank_of (fields_at l.now at)) result }
 {
     let f = leaf_fields::next_field(l, at);
-    let Field::Taken(id) = f else {
+    let Some(id) = f else {
         return NodeRead::NoNode(Reason::Missing);
     };
     let height = parse_fields::take_number(l, id.end);
-    let TookNumber::Number(elevation, at2) = height else {
+    let Ok((elevation, at2)) = height else {
         return NodeRead::NoNode(parse_fields::reason_of(height));
     };
     let more = leaf_fields::next_field(l, at2);
     match more {
-        Field::Taken(_) => read_levels(l, at2, id, elevation),
-        Field::Nothing => NodeRead::Reservoir(ReservoirLine {
+        Some(_) => read_levels(l, at2, id, elevation),
+        None => NodeRead::Reservoir(ReservoirLine {
             id,
             elevation,
             pattern: more,

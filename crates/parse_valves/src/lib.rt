@@ -7,98 +7,83 @@ ghost use Rattle.scope.specs.Links.{type_of, setting_from, valve_of};
 ghost use Rattle.parse_pipes.specs.Lines.{NamesFit, LinkAs};
 ghost use Rattle.parse_valves.specs.Lines.{pressure_or_position, TypeAs, SettingAs, setting_reason, OverridingAs, valve_after_type};
 
-use leaf_fields::Field;
-use parse_fields::TookNumber;
-use parse_pipes::{LinkLine, LinkNames, LinkRead, NamesRead};
+use parse_pipes::{LinkLine, LinkNames};
 use scope::{LinkKind, Reason, Valve, ValveType};
 
-#[derive(Clone, Copy)]
-pub enum TypeRead {
-    Type(ValveType),
-    NoType,
-}
-
-// A setting, the curve that stands in its place, and where its field ends.
-#[derive(Clone, Copy)]
-pub enum TookSetting {
-    Setting(f64, Field, usize),
-    NoSetting(Reason),
-}
-
 // A valve that keeps a pressure (PRV, PSV, PBV) or a position (PCV), in any case.
-fn read_pressure_or_position(word: &[u8]) -> TypeRead
+fn read_pressure_or_position(word: &[u8]) -> Option<ValveType>
     ensures { TypeAs (pressure_or_position word.now) result }
 {
     if leaf_letters::spells(word, b"PRV") {
-        return TypeRead::Type(ValveType::Prv);
+        return Some(ValveType::Prv);
     }
     if leaf_letters::spells(word, b"PSV") {
-        return TypeRead::Type(ValveType::Psv);
+        return Some(ValveType::Psv);
     }
     if leaf_letters::spells(word, b"PBV") {
-        return TypeRead::Type(ValveType::Pbv);
+        return Some(ValveType::Pbv);
     }
     if leaf_letters::spells(word, b"PCV") {
-        return TypeRead::Type(ValveType::Pcv);
+        return Some(ValveType::Pcv);
     }
-    TypeRead::NoType
+    None
 }
 
 // A valve's type, in any case.
-fn read_type(word: &[u8]) -> TypeRead
+fn read_type(word: &[u8]) -> Option<ValveType>
     ensures { TypeAs (type_of word.now) result }
 {
     if leaf_letters::spells(word, b"GPV") {
-        return TypeRead::Type(ValveType::Gpv);
+        return Some(ValveType::Gpv);
     }
     if leaf_letters::spells(word, b"TCV") {
-        return TypeRead::Type(ValveType::Tcv);
+        return Some(ValveType::Tcv);
     }
     if leaf_letters::spells(word, b"FCV") {
-        return TypeRead::Type(ValveType::Fcv);
+        return Some(ValveType::Fcv);
     }
     read_pressure_or_position(word)
 }
 
 // A number; for a GPV a curve.
-fn take_setting(l: &[u8], at: usize, kind: ValveType) -> TookSetting
+fn take_setting(l: &[u8], at: usize, kind: ValveType) -> Result<(f64, Option<Span>, usize), Reason>
     ensures { SettingAs l.now (setting_from kind (fields_at l.now at)) result }
 {
     if let ValveType::Gpv = kind {
         let curve = leaf_fields::next_field(l, at);
-        let Field::Taken(named) = curve else {
-            return TookSetting::Setting(0.0, curve, at);
+        let Some(named) = curve else {
+            return Ok((0.0, curve, at));
         };
-        return TookSetting::Setting(0.0, curve, named.end);
+        return Ok((0.0, curve, named.end));
     }
     let t = parse_fields::take_swallowed(l, at, 0.0);
     match t {
-        TookNumber::Number(x, next) => {
-            let none = Field::Nothing;
-            TookSetting::Setting(x, none, next)
+        Ok((x, next)) => {
+            let none = None;
+            Ok((x, none, next))
         }
-        TookNumber::NoNumber(why) => TookSetting::NoSetting(why),
+        Err(why) => Err(why),
     }
 }
 
 // Why no setting was taken.
-fn setting_reason(t: TookSetting) -> Reason
+fn setting_reason(t: Result<(f64, Option<Span>, usize), Reason>) -> Reason
     ensures { result ≡ setting_reason t }
 {
     match t {
-        TookSetting::Setting(_, _, _) => Reason::Missing,
-        TookSetting::NoSetting(why) => why,
+        Ok((_, _, _)) => Reason::Missing,
+        Err(why) => why,
     }
 }
 
 // The curve at `at`, which overrides the valve's own.
-fn take_overriding(l: &[u8], at: usize, own: Field) -> Field
+fn take_overriding(l: &[u8], at: usize, own: Option<Span>) -> Option<Span>
     ensures { OverridingAs l.now (fields_at l.now at) own result }
 {
     let f = leaf_fields::next_field(l, at);
     match f {
-        Field::Taken(s) => Field::Taken(s),
-        Field::Nothing => own,
+        Some(s) => Some(s),
+        None => own,
     }
 }
 
@@ -109,18 +94,18 @@ fn read_after_type(
     names: LinkNames,
     diameter: f64,
     kind: ValveType,
-) -> LinkRead
+) -> Result<LinkLine, Reason>
     ensures { NamesFit l.now names
         → LinkAs l.now (valve_after_type (name_in l.now names.id) (name_in l.now names.start)
         (name_in l.now names.end) diameter kind (fields_at l.now at)) result }
 {
     let first = take_setting(l, at, kind);
-    let TookSetting::Setting(setting, own, at2) = first else {
-        return LinkRead::NoLine(setting_reason(first));
+    let Ok((setting, own, at2)) = first else {
+        return Err(setting_reason(first));
     };
     let second = parse_fields::take_swallowed(l, at2, 0.0);
-    let TookNumber::Number(minor, at3) = second else {
-        return LinkRead::NoLine(parse_fields::reason_of(second));
+    let Ok((minor, at3)) = second else {
+        return Err(parse_fields::reason_of(second));
     };
     let curve = take_overriding(l, at3, own);
     let valve = Valve {
@@ -130,31 +115,31 @@ fn read_after_type(
         minor,
         curve,
     };
-    LinkRead::Line(LinkLine {
+    Ok(LinkLine {
         names,
         kind: LinkKind::Valve(valve),
     })
 }
 
 // Id, two nodes, diameter, type, setting, minor loss, a curve.
-pub fn read_valve(l: &[u8], at: usize) -> LinkRead
+pub fn read_valve(l: &[u8], at: usize) -> Result<LinkLine, Reason>
     ensures { LinkAs l.now (valve_of (fields_at l.now at)) result }
 {
     let three = parse_pipes::read_names(l, at);
-    let NamesRead::Names(names) = three else {
-        return LinkRead::NoLine(Reason::Missing);
+    let Ok(names) = three else {
+        return Err(Reason::Missing);
     };
     let first = parse_fields::take_number(l, names.end.end);
-    let TookNumber::Number(diameter, at2) = first else {
-        return LinkRead::NoLine(parse_fields::reason_of(first));
+    let Ok((diameter, at2)) = first else {
+        return Err(parse_fields::reason_of(first));
     };
     let f = leaf_fields::next_field(l, at2);
-    let Field::Taken(word) = f else {
-        return LinkRead::NoLine(Reason::Missing);
+    let Some(word) = f else {
+        return Err(Reason::Missing);
     };
     let known = read_type(leaf_fields::letters_of(l, word));
-    let TypeRead::Type(kind) = known else {
-        return LinkRead::NoLine(Reason::UnknownWord);
+    let Some(kind) = known else {
+        return Err(Reason::UnknownWord);
     };
     read_after_type(l, word.end, names, diameter, kind)
 }

@@ -14,7 +14,6 @@ use Rattle.scope.specs.Records.{Network, Node, Place, NodeKind, junction, reserv
 use Rattle.scope.specs.Series.{place_in, index_of, resolved_kind, resolved_node, resolved_demand, resolved}
 use Rattle.scope.specs.Tables.{index_no, name_words, placed, id_words, node_words, node_numbers, demand_words}
 use Rattle.scope.specs.declared.Counts.{Counts}
-use Rattle.scope.specs.declared.Found.{Found}
 use Rattle.table_rows.specs.Table.{splice}
 use Rattle.scope.specs.Layout.{name_place, name_length, nodes_at, nodes_width, node_kind, node_name, node_detail, demands_at, demands_width, demand_name, demand_index}
 use Rattle.table_rows.specs.Holding.{SitsOr, Holds, NodeFine, DemandFine, pattern_in, kind_no}
@@ -28,7 +27,7 @@ pub no-letters : (text : List ℕ) (ps : List Name) (o : Option Name) (at long :
 no-letters text ps none at long s e z = refl
 no-letters text ps (some n) at long s e z = absurd (let q : length n.letters ≡ long = cc in omega (arith, s.filled))
 
-pub some-letters : (text : List ℕ) (ps : List Name) (o : Option Name) (at long : ℕ) (name : List ℕ) (f : Found) → SitsOr text o → name_words o ≡ at ∷ long ∷ [] → (long ≡ 0 → ⊥)
+pub some-letters : (text : List ℕ) (ps : List Name) (o : Option Name) (at long : ℕ) (name : List ℕ) (f : Option ℕ) → SitsOr text o → name_words o ≡ at ∷ long ∷ [] → (long ≡ 0 → ⊥)
     → name ≡ take long (drop at text) → f ≡ lookup ps name → index_no (place_in f) ≡ index_no (index_of ps o)
 some-letters text ps none at long name f s e z en ef = absurd (z (let q : 0 ≡ long = cc in sym q))
 some-letters text ps (some n) at long name f s e z en ef =

@@ -1,4 +1,5 @@
 -- What a line is; the lines of a group, one after another; and how they grow with the text that is read. Assumes nothing.
+use Rattle.std.specs.Prelude.{None, Option, Some}
 use Prim.Native.Nat.{ℕ, ◌+◌, ◌-◌, ◌≤◌, ◌<◌}
 use native.Mathlib.Omega.{arith}
 use native.Mathlib.Nat.{add-zero}
@@ -28,8 +29,6 @@ use Rattle.scope.specs.Spelling.{word_rule}
 use Rattle.scope.specs.Sections.{section_of, is_rules}
 use Rattle.scope.specs.Lines.{sort_by, sort_of, rule_fields}
 use Rattle.read_headers.specs.Own.{is_data, plain_by, own_fields, group_fields, OwnHere, OwnFrom, NextOwn}
-use Rattle.read_headers.specs.declared.OwnLine.{OwnLine}
-use Rattle.read_headers.specs.declared.OwnLine.TheVariants as own
 
 -- ---- what a line is, by the place i of its first byte that is no whitespace
 module _ (l : List ℕ) (at i : ℕ) (es : i ≡ start_at l at) where
@@ -162,10 +161,10 @@ own-rules L.start s e = rules-only s e
 own-rules L.other s e = rules-only s e
 
 -- the next of the group's lines
-pub found-own : {text : List ℕ} {from : ℕ} (s : Span) → OwnHere text from s → OwnFrom text from (own.Line s)
+pub found-own : {text : List ℕ} {from : ℕ} (s : Span) → OwnHere text from s → OwnFrom text from (Some s)
 found-own {text} {from} s h = record { line = λ t e. let q : s ≡ t = cc in subst (OwnHere text from) q h; nothing = λ e. absurd (let z : ◌≡◌ {A = ℕ} 0 1 = cc in omega arith) }
 
-pub no_own : {text : List ℕ} {from : ℕ} → own_fields Rules from (chunks (drop from text)) ≡ [] → OwnFrom text from own.Nothing
+pub no_own : {text : List ℕ} {from : ℕ} → own_fields Rules from (chunks (drop from text)) ≡ [] → OwnFrom text from None
 no_own h = record { line = λ t e. absurd (let z : ◌≡◌ {A = ℕ} 0 1 = cc in omega arith); nothing = λ e. h }
 
 -- ---- the line at a place of the text
@@ -195,7 +194,7 @@ module _ (text : List ℕ) (p e : ℕ) (h : p < length text) (he : e ≡ p + lin
   -- from what the code was told of it: the sort k of the bytes that were cut out, and the answer r
   module _ {from : ℕ} (s : Section) (inv : (own_fields s p (chunks (drop p text)) ≡ own_fields Rules from (chunks (drop from text))) × (from ≤ p))
       (k : L.Sort Section) (l : List ℕ) (r : Bool) (el : l ≡ take e text) (ek : k ≡ sort_of (drop p l)) (er : r ≡ own_by is_rules k s) where
-    pub told-own : r ≡ true → OwnFrom text from (own.Line (record { at = p; end = e }))
+    pub told-own : r ≡ true → OwnFrom text from (Some (record { at = p; end = e }))
     told-own t = found-own (record { at = p; end = e }) (own_line-law from s inv.0 inv.1 (cc))
 
     pub told-other : (z : Section) → z ≡ sec_by k s → r ≡ false → (own_fields z e (chunks (drop e text)) ≡ own_fields Rules from (chunks (drop from text))) × (from ≤ e)
@@ -213,7 +212,7 @@ same_line text at p e h =
     let k : e ≤ at = omega (arith, length-take at text) in
     ap (fields_of p) (drop-take p e (take at text) ∙ part-take p e at text k ∙ sym (drop-take p e text))
 
-pub next-own : (text : List ℕ) (at from : ℕ) (r : OwnLine) → OwnFrom (take at text) from r → NextOwn text at from r
+pub next-own : (text : List ℕ) (at from : ℕ) (r : Option Span) → OwnFrom (take at text) from r → NextOwn text at from r
 next-own text at from r h = record {
   line = λ s e. let o = h.line s e in
       record {

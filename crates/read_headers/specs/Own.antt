@@ -1,6 +1,6 @@
 -- The lines of a group, with their fields, where the group's stretch of text is read again. Document 01, "Lines and groups": "A group ends at the line that closes it;
 -- lines of other sections may stand between." Assumes nothing.
-use Rattle.std.specs.Prelude.{ℕ, ◌+◌, ◌≤◌, ◌<◌, ◌≡◌, Bool, true, false, cond, not, ◌||◌, List, [], ◌∷◌, ◌++◌, length, take, drop, eqb}
+use Rattle.std.specs.Prelude.{ℕ, ◌+◌, ◌≤◌, ◌<◌, ◌≡◌, Bool, true, false, cond, not, ◌||◌, List, [], ◌∷◌, ◌++◌, length, take, drop, eqb, None, Option, Some}
 use Rattle.leaf_fields.specs.Fields.{Name, fields_of, fields_at}
 use Rattle.leaf_scans.specs.Lines.{chunks}
 use Rattle.leaf_fields.specs.declared.Span.{Span}
@@ -12,8 +12,6 @@ use Rattle.scope.specs.Sections.{is_rules}
 use Rattle.scope.specs.Lines.{sort_of}
 use Rattle.read_headers.specs.declared.Sort.{Sort}
 use Rattle.read_headers.specs.declared.Sort.TheVariants.{Empty, Heading, Start, Other}
-use Rattle.read_headers.specs.declared.OwnLine.{OwnLine}
-use Rattle.read_headers.specs.declared.OwnLine.TheVariants.{Line, Nothing}
 
 abbrev pub sort_in : Sort → L.Sort Section
 sort_in Empty = L.empty
@@ -49,9 +47,9 @@ pub record OwnHere (text : List ℕ) (from : ℕ) (s : Span) : Type 0 where
   pub some : s.at < s.end
   pub inside : s.end ≤ length text
 
-pub record OwnFrom (text : List ℕ) (from : ℕ) (r : OwnLine) : Type 0 where
-  pub line : (s : Span) → r ≡ Line s → OwnHere text from s
-  pub nothing : r ≡ Nothing → own_fields Rules from (chunks (drop from text)) ≡ []
+pub record OwnFrom (text : List ℕ) (from : ℕ) (r : Option Span) : Type 0 where
+  pub line : (s : Span) → r ≡ Some s → OwnHere text from s
+  pub nothing : r ≡ None → own_fields Rules from (chunks (drop from text)) ≡ []
 
 pub record NextHere (text : List ℕ) (at from : ℕ) (s : Span) : Type 0 where
   pub whole : group_fields text at from ≡ fields_at (take s.end text) s.at ∷ group_fields text at s.end
@@ -59,6 +57,6 @@ pub record NextHere (text : List ℕ) (at from : ℕ) (s : Span) : Type 0 where
   pub some : s.at < s.end
   pub inside : s.end ≤ length text
 
-pub record NextOwn (text : List ℕ) (at from : ℕ) (r : OwnLine) : Type 0 where
-  pub line : (s : Span) → r ≡ Line s → NextHere text at from s
-  pub nothing : r ≡ Nothing → group_fields text at from ≡ []
+pub record NextOwn (text : List ℕ) (at from : ℕ) (r : Option Span) : Type 0 where
+  pub line : (s : Span) → r ≡ Some s → NextHere text at from s
+  pub nothing : r ≡ None → group_fields text at from ≡ []

@@ -193,14 +193,8 @@ pub fn own_by(k: Sort, s: Section) -> bool
 
 // ---- the lines of a group
 
-#[derive(Clone, Copy)]
-pub enum OwnLine {
-    Line(Span),
-    Nothing,
-}
-
 // The next of the group's lines from `from` on, up to the end of the text.
-fn own_from(text: &[u8], from: usize) -> OwnLine
+fn own_from(text: &[u8], from: usize) -> Option<Span>
     ensures { OwnFrom text.now from result }
 {
     let mut section = Section::Rules;
@@ -209,16 +203,16 @@ fn own_from(text: &[u8], from: usize) -> OwnLine
         let e = leaf_scans::line_end(text, p);
         let k = sort_of(leaf_letters::cut(text, 0, e), p);
         if own_by(k, section) {
-            return OwnLine::Line(Span { at: p, end: e });
+            return Some(Span { at: p, end: e });
         }
         section = section_by(k, section);
         p = e;
     }
-    OwnLine::Nothing
+    None
 }
 
 // The next of the group's lines from `from` on, in a text read up to `at`. Lines of other sections may stand between.
-pub fn next_own(text: &[u8], at: usize, from: usize) -> OwnLine
+pub fn next_own(text: &[u8], at: usize, from: usize) -> Option<Span>
     ensures { NextOwn text.now at from result }
 {
     own_from(leaf_letters::cut(text, 0, at), from)

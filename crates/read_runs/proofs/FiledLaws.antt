@@ -1,4 +1,5 @@
 -- A line that its section stores, or refuses, from what the code knows there. Assumes nothing.
+use Rattle.std.specs.Prelude.{Err, Ok, Result}
 use Prim.Native.Nat.{ℕ, ◌+◌, ◌≤◌}
 use native.Mathlib.Omega.{arith}
 use mathlib.Core.Path.{◌≡◌, refl, sym, ap, ◌∙◌}
@@ -24,8 +25,6 @@ use Rattle.scope.specs.Records.{Network}
 use Rattle.scope.specs.Values.{Read, bad}
 use Rattle.scope.specs.Lines.{sort_of, section_fields, verdict, step_of, inp}
 use Rattle.table_rows.specs.Holding.{Holds, After}
-use Rattle.table_rows.specs.declared.Kept.{Kept}
-use Rattle.table_rows.specs.declared.Kept.TheVariants.{Stored, Refused}
 use Rattle.table_rows.proofs.AfterLaws.{after-stored, after-refused}
 use Rattle.read_headers.specs.Own.{is_data}
 use Rattle.read_headers.specs.Sections.{passes_over}
@@ -88,19 +87,19 @@ module _ {text w : List ℕ} {f : List Float} {s : State} (fit : Fits text s w f
     steps m hs =
         files (sort_of (body_at text s.at)) s.section d a b m here hs.sec ∙ ap (λ x. filed (verdict (line_step s.section x m.recs))) (sym (body-cut z))
 
-    module _ {w' : List ℕ} {f' : List Float} {k : Kept}
+    module _ {w' : List ℕ} {f' : List Float} {k : Result Counts Reason}
         (ens : (n : Network) → Holds text n s.counts w f → After text (line_step s.section (fields_at (take end text) s.at) n) k w f w' f') where
-      pub way-stored : {c : Counts} {st : State} → k ≡ Stored c → st ≡ moved_to s s.section c e
+      pub way-stored : {c : Counts} {st : State} → k ≡ Ok c → st ≡ moved_to s s.section c e
           → Goes text s w f (step inp false) (record { state = st; class = 4; closed = 0; reason = 0; piece = s.line + 1 }) w' f'
       way-stored {c} q es m hs =
           let o : Read Network = line_step s.section (fields_at (take end text) s.at) m.recs in
           let r = after-stored text w w' f f' o k c (ens m.recs hs.recs) q in
           becomes (steps m hs ∙ ap (λ x. filed (verdict x)) r.1) (rw es (taken_step hs fit.more e he own sec r.0 c r.2))
 
-      unchanged : {n : Reason} → k ≡ Refused n → (m : Model) → Carries text s w f m → (line_step s.section (fields_at (take end text) s.at) m.recs ≡ bad n) × (w' ≡ w) × (f' ≡ f)
+      unchanged : {n : Reason} → k ≡ Err n → (m : Model) → Carries text s w f m → (line_step s.section (fields_at (take end text) s.at) m.recs ≡ bad n) × (w' ≡ w) × (f' ≡ f)
       unchanged {n} q m hs = after-refused text w w' f f' (line_step s.section (fields_at (take end text) s.at) m.recs) k n (ens m.recs hs.recs) q
 
-      pub way-refused : {n : Reason} {rs : ℕ} → k ≡ Refused n → rs ≡ reason_no n
+      pub way-refused : {n : Reason} {rs : ℕ} → k ≡ Err n → rs ≡ reason_no n
           → (w' ≡ w) × (f' ≡ f) × Goes text s w f (step inp false) (record { state = moved_to s s.section s.counts e; class = 5; closed = 0; reason = rs; piece = s.line + 1 }) w f
       way-refused {n} q er =
           let r = unchanged q fit.m fit.stands in

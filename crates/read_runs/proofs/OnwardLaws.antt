@@ -1,4 +1,5 @@
 -- A line more: what the loops over plain lines know, and what each way through them gives. Assumes nothing.
+use Rattle.std.specs.Prelude.{Err, Ok, Result}
 use Prim.Native.Nat.{ℕ, ◌+◌, ◌≤◌, ◌<◌}
 use native.Mathlib.Omega.{arith}
 use mathlib.Core.Path.{◌≡◌, refl, sym, ap, ◌∙◌, subst}
@@ -19,8 +20,6 @@ use Rattle.scope.specs.Sections.{is_rules}
 use Rattle.scope.specs.Records.{Network}
 use Rattle.scope.specs.Lines.{sort_of, inp}
 use Rattle.table_rows.specs.Holding.{Holds, After}
-use Rattle.table_rows.specs.declared.Kept.{Kept}
-use Rattle.table_rows.specs.declared.Kept.TheVariants.{Stored, Refused}
 use Rattle.read_headers.specs.Own.{is_data, plain_by}
 use Rattle.read_headers.specs.Sections.{passes_over}
 use Rattle.read_sections.specs.Storing.{line_step}
@@ -100,17 +99,17 @@ module _ {text : List ℕ} {s₀ : State} {w₀ : List ℕ} {f₀ : List Float} 
     not-over = ap passes_over (sym its) ∙ b
 
     -- what is promised of the line, in the words of the section x
-    abbrev Promise : Section → Kept → List ℕ → List Float → Type 0
+    abbrev Promise : Section → Result Counts Reason → List ℕ → List Float → Type 0
     Promise y k w' f' = (n : Network) → Holds text n s.counts w f → After text (line_step y (fields_at (take end text) s.at) n) k w f w' f'
 
-    module _ {w' : List ℕ} {f' : List Float} {kept : Kept} (ens : Promise x kept w' f') where
-      pub stored : {c : Counts} {t : State} → kept ≡ Stored c → t ≡ moved_to s x c e → Come text 4 s₀ w₀ f₀ t w' f'
+    module _ {w' : List ℕ} {f' : List Float} {kept : Result Counts Reason} (ens : Promise x kept w' f') where
+      pub stored : {c : Counts} {t : State} → kept ≡ Ok c → t ≡ moved_to s x c e → Come text 4 s₀ w₀ f₀ t w' f'
       stored {c} {t} q es =
           let ens' = subst (λ (y : Section). Promise y kept w' f') its ens in
           let es' : t ≡ moved_to s s.section c e = es ∙ ap (λ (y : Section). moved_to s y c e) its in
           come g h (way-stored (fits g.ready h) he (told ∙ p) not-rules not-over z ens' q es') refl refl refl (ap (λ (y : State). y.section) es')
 
-      pub unstored : {n : Reason} {rs : ℕ} → kept ≡ Refused n → rs ≡ reason_no n → Onward text 4 s₀ w₀ f₀ s w' f' × LeftAt text w' f' s rs e
+      pub unstored : {n : Reason} {rs : ℕ} → kept ≡ Err n → rs ≡ reason_no n → Onward text 4 s₀ w₀ f₀ s w' f' × LeftAt text w' f' s rs e
       unstored {n} {rs} q er =
           let ens' = subst (λ (y : Section). Promise y kept w' f') its ens in
           let r = way-refused (fits g.ready h) he (told ∙ p) not-rules not-over z ens' q er in

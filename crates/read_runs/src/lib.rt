@@ -11,7 +11,6 @@ ghost use Rattle.read_runs.specs.Onward.{Ready, Onward, LeftAt};
 
 use read_steps::{State, Turn};
 use scope::Section;
-use table_rows::Kept;
 
 // Where the lines end that were read, and the class that each of them has. Where the next line is refused: the refusal's number, and the line's end; else 0 and 0.
 #[derive(Clone, Copy)]
@@ -45,10 +44,10 @@ fn file_lines(
                 section, text, at, ends.cut, counts, words, numbers,
             );
             match kept {
-                Kept::Stored(c) => {
+                Ok(c) => {
                     t = t.moved(section, c, e);
                 }
-                Kept::Refused(r) => {
+                Err(r) => {
                     return PlainRun {
                         state: t,
                         class: table_codes::TAKEN,

@@ -8,7 +8,6 @@ ghost use Rattle.table_rows.specs.Holding.{Holds, Sound, After};
 ghost use Rattle.read_sections.specs.Storing.{line_step};
 
 use scope::{Counts, Section};
-use table_rows::Kept;
 
 // Hands a line to the reader of its section.
 pub fn store_line(
@@ -19,7 +18,7 @@ pub fn store_line(
     s: Counts,
     words: &mut [u64],
     numbers: &mut [f64],
-) -> Kept
+) -> Result<Counts, Reason>
     requires { Sound text.now s words.old numbers.old × (end ≤ length text.now) }
     ensures { (m : Network) → Holds text.now m s words.old numbers.old
         → After text.now (line_step section (fields_at (take end text.now) at) m) result words.old numbers.old words.new numbers.new }
@@ -37,7 +36,7 @@ pub fn store_line(
         Section::Emitters => store_places::emitter_line(text, at, end, s, words, numbers),
         Section::Coordinates => store_places::coordinates_line(text, at, end, s, words, numbers),
         Section::Times => store_times::times_line(text, at, end, s, words, numbers),
-        Section::Rules => Kept::Stored(s),
-        Section::Passed => Kept::Stored(s),
+        Section::Rules => Ok(s),
+        Section::Passed => Ok(s),
     }
 }

@@ -1,4 +1,5 @@
 -- Each way through the functions of one line, from what the code knows there. Assumes nothing.
+use Rattle.std.specs.Prelude.{Err, Ok, Result}
 use Prim.Native.Nat.{ℕ, ◌+◌}
 use mathlib.Core.Path.{◌≡◌, refl, sym, ap, ◌∙◌, subst}
 use mathlib.Core.Bool.{Bool, true, false, cond}
@@ -25,8 +26,6 @@ use Rattle.scope.specs.Values.{Read, good, bad}
 use Rattle.scope.specs.Rules.{group_step}
 use Rattle.scope.specs.Lines.{sort_of, section_fields, rule_fields, verdict, step_of, inp}
 use Rattle.table_rows.specs.Holding.{Holds, After}
-use Rattle.table_rows.specs.declared.Kept.{Kept}
-use Rattle.table_rows.specs.declared.Kept.TheVariants.{Stored, Refused}
 use Rattle.table_rows.proofs.AfterLaws.{after-stored, after-refused}
 use Rattle.read_headers.specs.Own.{sort_in, is_data, plain_by, group_fields}
 use Rattle.read_headers.specs.Sections.{passes_over}
@@ -115,9 +114,9 @@ module _ {text w : List ℕ} {f : List Float} {s : State} (fit : Fits text s w f
       is_open-law m.group gr.stretch.named gr.stretch.some (verdict (group_step (map rule_fields m.group) m.recs)) (L.good m.recs)
       ∙ ap (λ x. verdict (group_step x m.recs)) gr.fields
 
-  module _ {w' : List ℕ} {f' : List Float} {k : Kept} (d : Bool) (g : s.grouped ≡ true)
+  module _ {w' : List ℕ} {f' : List Float} {k : Result Counts Reason} (d : Bool) (g : s.grouped ≡ true)
       (ens : (n : Network) → Holds text n s.counts w f → After text (group_step (group_fields text s.at s.first) n) k w f w' f') where
-    pub way-closed : {c : Counts} {st : State} {cl : ℕ} → k ≡ Stored c → st ≡ shut_to s c e → cl ≡ cond d 6 1
+    pub way-closed : {c : Counts} {st : State} {cl : ℕ} → k ≡ Ok c → st ≡ shut_to s c e → cl ≡ cond d 6 1
         → Goes text s w f (λ m l. closes (shut inp m) (own_line d m.sec)) (record { state = st; class = cl; closed = 6; reason = 0; piece = s.no }) w' f'
     way-closed {c} z es ec m hs =
         let o : Read Network = group_step (group_fields text s.at s.first) m.recs in
@@ -125,7 +124,7 @@ module _ {text w : List ℕ} {f : List Float} {s : State} (fit : Fits text s w f
         becomes (ap (λ v. closes v (own_line d m.sec)) (shut-is m hs g ∙ verdict-good o p.1))
         (rw (es, ec) (closed-step hs fit.more e he g d p.0 c p.2))
 
-    pub way-rejected : {n : Reason} {st : State} {cl rs : ℕ} → k ≡ Refused n → st ≡ shut_to s s.counts e → cl ≡ cond d 7 1 → rs ≡ reason_no n
+    pub way-rejected : {n : Reason} {st : State} {cl rs : ℕ} → k ≡ Err n → st ≡ shut_to s s.counts e → cl ≡ cond d 7 1 → rs ≡ reason_no n
         → Goes text s w f (λ m l. closes (shut inp m) (own_line d m.sec)) (record { state = st; class = cl; closed = 7; reason = rs; piece = s.no }) w' f'
     way-rejected {n} z es ec er m hs =
         let o : Read Network = group_step (group_fields text s.at s.first) m.recs in

@@ -13,7 +13,6 @@ ghost use Rattle.read_steps.specs.Held.{Fits, Unstored, Goes, own_line, moved_to
 
 use read_headers::Sort;
 use scope::{Counts, Section};
-use table_rows::Kept;
 
 // The reading: the section, the open group by its first line's place and number, the counts, and the next line.
 #[derive(Clone, Copy)]
@@ -161,14 +160,14 @@ fn close(
     let counts = s.counts;
     let k = rule_store::close_group(text, first, at, counts, words, numbers);
     match k {
-        Kept::Stored(c) => Turn {
+        Ok(c) => Turn {
             state: s.shut(c, e),
             class: own_class(dropped, table_codes::RULE_TAKEN),
             closed: table_codes::RULE_TAKEN,
             reason: 0,
             piece: no,
         },
-        Kept::Refused(r) => Turn {
+        Err(r) => Turn {
             state: s.shut(counts, e),
             class: own_class(dropped, table_codes::RULE_REFUSED),
             closed: table_codes::RULE_REFUSED,

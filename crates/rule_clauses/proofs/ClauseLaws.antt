@@ -1,4 +1,5 @@
 -- What a condition and an action are, from what the code was told. Assumes nothing.
+use Rattle.std.specs.Prelude.{None, Some}
 use Prim.Native.Nat.{ℕ}
 use mathlib.Core.Path.{◌≡◌, refl, ap}
 use mathlib.Core.Bool.{Bool, true, false, cond}
@@ -8,8 +9,6 @@ use lib.ListN.{get_or}
 use Rattle.leaf_fields.specs.Fields.{Name, part, name_in, fields_at}
 use Rattle.leaf_letters.specs.Words.{same}
 use Rattle.leaf_fields.specs.declared.Span.{Span}
-use Rattle.scope.specs.declared.Found.{Found}
-use Rattle.scope.specs.declared.Found.TheVariants.{At, Nowhere}
 use Rattle.scope.specs.declared.Target.{Target}
 use Rattle.scope.specs.declared.Value.{Value}
 use Rattle.scope.specs.declared.Operator.TheVariants as operator
@@ -71,7 +70,7 @@ action-parts otherwise m (k ∷ id ∷ fs) = go (lookup (link_ids m) id.letters)
     on i (good u) = deed-out i id otherwise fs
     on i (bad why) = refl
 
-    go : (f : Found) → on_found f (λ i.
+    go : (f : Option ℕ) → on_found f (λ i.
         on_read (kind_fits k.letters (get_or m.links i no_link).kind) (λ fits.
         on_took (name_from fs) (λ what fs.
         on_took (name_from fs) (λ is fs.
@@ -81,8 +80,8 @@ action-parts otherwise m (k ∷ id ∷ fs) = go (lookup (link_ids m) id.letters)
         good (action_with otherwise i id value))))
         (bad UnknownWord)))))
         (bad NotFound) ≡ action_at otherwise m (record { kind = k; id = id }) fs f
-    go (At i) = on i (kind_fits k.letters (get_or m.links i no_link).kind)
-    go Nowhere = refl
+    go (Some i) = on i (kind_fits k.letters (get_or m.links i no_link).kind)
+    go None = refl
 
 -- ---- a line, by its first word
 pub line-by : (m : Network) (d : Draft) (w : Name) (fs : List Name) → line_of m d (w ∷ fs) ≡ line_by (rule_word w.letters) m d fs

@@ -1,6 +1,6 @@
 -- The code's answers as those of scope's Rules, and those of its definitions that the code reads in parts. Assumes nothing.
-use Rattle.std.specs.Prelude.{ℕ, Bool, true, false, cond, get_or, List, [], ◌∷◌}
-use Rattle.std.proofs.Math.Option.{Option, none, some}
+use Rattle.scope.specs.declared.Reason.{Reason}
+use Rattle.std.specs.Prelude.{ℕ, Bool, true, false, cond, get_or, List, [], ◌∷◌, Err, None, Ok, Option, Result, Some}
 use Rattle.leaf_fields.specs.Fields.{Name, fields_at, name_in, Fits}
 pub use Rattle.leaf_fields.specs.Fields.{opt_in, MayFit}
 pub use Rattle.rule_values.specs.Values.{value_read}
@@ -12,33 +12,22 @@ use Rattle.scope.specs.declared.Operator.{Operator}
 use Rattle.scope.specs.declared.Value.{Value}
 use Rattle.scope.specs.declared.Condition as C
 use Rattle.scope.specs.Spelling.{word_rule, word_if, word_and, word_or, word_then, word_else, word_priority, word_is}
-use Rattle.scope.specs.declared.Found.{Found}
 use Rattle.scope.specs.declared.Operator.TheVariants as operator
 use Rattle.scope.specs.Records.{Network, Condition, Action, no_link}
 use Rattle.scope.specs.Values.{Read, good, bad, on_read, Took, took, refused, on_took, on_found, name_from}
 use Rattle.scope.specs.Rules as R
 use Rattle.scope.specs.Rules.{node_target, tank_target, link_target, comparison_of, value_of, deed_of, kind_fits, Draft, ruled, conditioned, acted, anded, ranked}
-use Rattle.rule_clauses.specs.declared.AttributeRead.{AttributeRead}
-use Rattle.rule_clauses.specs.declared.AttributeRead.TheVariants as attribute
 use Rattle.rule_clauses.specs.declared.Named.{Named}
 use Rattle.rule_clauses.specs.declared.Named.TheVariants.{Node, Tank, Link}
 use Rattle.rule_clauses.specs.declared.Aim.{Aim}
-use Rattle.rule_clauses.specs.declared.TargetRead.{TargetRead}
-use Rattle.rule_clauses.specs.declared.TargetRead.TheVariants as target
-use Rattle.rule_clauses.specs.declared.ConditionRead.{ConditionRead}
-use Rattle.rule_clauses.specs.declared.ConditionRead.TheVariants as condition
 use Rattle.rule_clauses.specs.declared.ActionHead.{ActionHead}
-use Rattle.rule_clauses.specs.declared.HeadRead.{HeadRead}
-use Rattle.rule_clauses.specs.declared.HeadRead.TheVariants as head
-use Rattle.rule_clauses.specs.declared.KindRead.{KindRead}
-use Rattle.rule_clauses.specs.declared.KindRead.TheVariants as kind
 use Rattle.rule_clauses.specs.declared.RuleWord.{RuleWord}
 use Rattle.rule_clauses.specs.declared.RuleWord.TheVariants.{Rule, If, Or, Then, And, Else, Priority, Unknown}
 
 -- ---- targets
-abbrev pub attribute_read : AttributeRead → Option Target
-attribute_read (attribute.Known t) = some t
-attribute_read attribute.Unknown = none
+abbrev pub attribute_read : Option Target → Option Target
+attribute_read (Some t) = Some t
+attribute_read None = None
 
 abbrev pub attribute_of : Named → List ℕ → Option Target
 attribute_of Node w = node_target w
@@ -48,25 +37,25 @@ attribute_of Link w = link_target w
 abbrev pub aim_in : List ℕ → Aim → R.Aim
 aim_in l a = record { target = a.target; name = opt_in l a.name }
 
-abbrev pub target_read : List ℕ → TargetRead → Took R.Aim
-target_read l (target.Read a) = took (aim_in l a) (fields_at l a.next)
-target_read l (target.Refused why) = refused why
+abbrev pub target_read : List ℕ → Result Aim Reason → Took R.Aim
+target_read l (Ok a) = took (aim_in l a) (fields_at l a.next)
+target_read l (Err why) = refused why
 
-abbrev pub TargetFits : List ℕ → TargetRead → Type 0
-TargetFits l (target.Read a) = MayFit l a.name
-TargetFits l (target.Refused why) = Unit
+abbrev pub TargetFits : List ℕ → Result Aim Reason → Type 0
+TargetFits l (Ok a) = MayFit l a.name
+TargetFits l (Err why) = Unit
 
 -- ---- conditions
 abbrev pub condition_in : List ℕ → C.Condition → Condition
 condition_in l c = record { operator = c.operator; target = c.target; name = opt_in l c.name; comparison = c.comparison; value = c.value }
 
-abbrev pub condition_read : List ℕ → ConditionRead → Read Condition
-condition_read l (condition.Read c) = good (condition_in l c)
-condition_read l (condition.Refused why) = bad why
+abbrev pub condition_read : List ℕ → Result Condition Reason → Read Condition
+condition_read l (Ok c) = good (condition_in l c)
+condition_read l (Err why) = bad why
 
-abbrev pub ConditionFits : List ℕ → ConditionRead → Type 0
-ConditionFits l (condition.Read c) = MayFit l c.name
-ConditionFits l (condition.Refused why) = Unit
+abbrev pub ConditionFits : List ℕ → Result Condition Reason → Type 0
+ConditionFits l (Ok c) = MayFit l c.name
+ConditionFits l (Err why) = Unit
 
 -- a condition on what is aimed at, by the fields after that: the comparison and the value
 unfoldable pub condition_on : Operator → R.Aim → List Name → Read Condition
@@ -89,17 +78,17 @@ head_from (k ∷ i ∷ fs) = took (record { kind = k; id = i }) fs
 abbrev pub head_in : List ℕ → ActionHead → Head
 head_in l h = record { kind = name_in l h.kind; id = name_in l h.id }
 
-abbrev pub head_read : List ℕ → HeadRead → Took Head
-head_read l (head.Read h) = took (head_in l h) (fields_at l h.id.end)
-head_read l (head.Refused why) = refused why
+abbrev pub head_read : List ℕ → Result ActionHead Reason → Took Head
+head_read l (Ok h) = took (head_in l h) (fields_at l h.id.end)
+head_read l (Err why) = refused why
 
-abbrev pub HeadFits : List ℕ → HeadRead → Type 0
-HeadFits l (head.Read h) = Fits l h.kind × Fits l h.id
-HeadFits l (head.Refused why) = Unit
+abbrev pub HeadFits : List ℕ → Result ActionHead Reason → Type 0
+HeadFits l (Ok h) = Fits l h.kind × Fits l h.id
+HeadFits l (Err why) = Unit
 
-abbrev pub kind_read : KindRead → Read Unit
-kind_read kind.Fits = good tt
-kind_read (kind.Refused why) = bad why
+abbrev pub kind_read : Result Unit Reason → Read Unit
+kind_read (Ok tt) = good tt
+kind_read (Err why) = bad why
 
 unfoldable pub deed_from : List Name → Read Value
 deed_from fs =
@@ -113,7 +102,7 @@ abbrev pub action_with : Bool → ℕ → Name → Value → Action
 action_with otherwise i id v = record { link = i; name = id; value = v; otherwise = otherwise }
 
 -- an action, once its link is looked up
-abbrev pub action_at : Bool → Network → Head → List Name → Found → Read Action
+abbrev pub action_at : Bool → Network → Head → List Name → Option ℕ → Read Action
 action_at otherwise m h fs f =
     on_found f (λ i.
     on_read (kind_fits h.kind.letters (get_or m.links i no_link).kind) (λ fits.

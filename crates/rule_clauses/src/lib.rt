@@ -10,8 +10,8 @@ ghost use Rattle.scope.specs.Rules.{of_kind, is_pipe, is_pump, is_valve, kind_fi
 ghost use Rattle.rule_clauses.specs.Clauses.{attribute_read, attribute_of, target_read, TargetFits, aim_in, value_read, condition_read, ConditionFits};
 ghost use Rattle.rule_clauses.specs.Clauses.{condition_on, head_from, head_read, HeadFits, kind_read, deed_from, rule_word, MayFit};
 
-use leaf_fields::{Field, Span};
-use rule_values::{ComparisonRead, ValueRead};
+use leaf_fields::{Span};
+
 use scope::{
     Condition, LinkAttribute, LinkStatus, NodeAttribute, Operator, Reason, SystemAttribute,
     TankAttribute, Target, Value,
@@ -19,71 +19,64 @@ use scope::{
 
 // ---- the target of a condition
 
-// The target that an attribute's word makes.
-#[derive(Clone, Copy)]
-pub enum AttributeRead {
-    Known(Target),
-    Unknown,
-}
-
-fn system_target(w: &[u8]) -> AttributeRead
+fn system_target(w: &[u8]) -> Option<Target>
     ensures { attribute_read result ≡ system_target w.now }
 {
     if leaf_letters::equal(w, b"DEMAND") {
-        return AttributeRead::Known(Target::System(SystemAttribute::Demand));
+        return Some(Target::System(SystemAttribute::Demand));
     }
     if leaf_letters::equal(w, b"TIME") {
-        return AttributeRead::Known(Target::System(SystemAttribute::Time));
+        return Some(Target::System(SystemAttribute::Time));
     }
     if leaf_letters::equal(w, b"CLOCKTIME") {
-        return AttributeRead::Known(Target::System(SystemAttribute::Clocktime));
+        return Some(Target::System(SystemAttribute::Clocktime));
     }
-    AttributeRead::Unknown
+    None
 }
 
-fn node_target(w: &[u8]) -> AttributeRead
+fn node_target(w: &[u8]) -> Option<Target>
     ensures { attribute_read result ≡ node_target w.now }
 {
     if leaf_letters::equal(w, b"DEMAND") {
-        return AttributeRead::Known(Target::Node(NodeAttribute::Demand));
+        return Some(Target::Node(NodeAttribute::Demand));
     }
     if leaf_letters::equal(w, b"HEAD") {
-        return AttributeRead::Known(Target::Node(NodeAttribute::Head));
+        return Some(Target::Node(NodeAttribute::Head));
     }
     if leaf_letters::equal(w, b"PRESSURE") {
-        return AttributeRead::Known(Target::Node(NodeAttribute::Pressure));
+        return Some(Target::Node(NodeAttribute::Pressure));
     }
-    AttributeRead::Unknown
+    None
 }
 
-fn tank_target(w: &[u8]) -> AttributeRead
+fn tank_target(w: &[u8]) -> Option<Target>
     ensures { attribute_read result ≡ tank_target w.now }
 {
     if leaf_letters::equal(w, b"LEVEL") {
-        return AttributeRead::Known(Target::Tank(TankAttribute::Level));
+        return Some(Target::Tank(TankAttribute::Level));
     }
     if leaf_letters::equal(w, b"FILLTIME") {
-        return AttributeRead::Known(Target::Tank(TankAttribute::Filltime));
+        return Some(Target::Tank(TankAttribute::Filltime));
     }
     if leaf_letters::equal(w, b"DRAINTIME") {
-        return AttributeRead::Known(Target::Tank(TankAttribute::Draintime));
+        return Some(Target::Tank(TankAttribute::Draintime));
     }
-    AttributeRead::Unknown
+    None
 }
 
-fn link_target(w: &[u8]) -> AttributeRead
+fn link_target(w: &[u8]) -> Option<Target>
     ensures { attribute_read result ≡ link_target w.now }
 {
     if leaf_letters::equal(w, b"FLOW") {
-        return AttributeRead::Known(Target::Link(LinkAttribute::Flow));
+        return Some(Target::Link(LinkAttribute::Flow));
     }
     if leaf_letters::equal(w, b"STATUS") {
-        return AttributeRead::Known(Target::Link(LinkAttribute::Status));
+        return Some(Target::Link(LinkAttribute::Status));
     }
     if leaf_letters::equal(w, b"SETTING") {
-        return AttributeRead::Known(Target::Link(LinkAttribute::Setting));
+        return Some(Target::Link(LinkAttribute::Setting));
     }
-    AttributeRead::Unknown
+    None
 }
 
 // The kinds of target that have an id.
@@ -94,7 +87,7 @@ enum Named {
     Link,
 }
 
-fn attribute(kind: Named, w: &[u8]) -> AttributeRead
+fn attribute(kind: Named, w: &[u8]) -> Option<Target>
     ensures { attribute_read result ≡ attribute_of kind w.now }
 {
     match kind {
@@ -108,57 +101,51 @@ fn attribute(kind: Named, w: &[u8]) -> AttributeRead
 #[derive(Clone, Copy)]
 pub struct Aim {
     pub target: Target,
-    pub name: Field,
+    pub name: Option<Span>,
     pub next: usize,
 }
 
-#[derive(Clone, Copy)]
-pub enum TargetRead {
-    Read(Aim),
-    Refused(Reason),
-}
-
 // The attribute after SYSTEM.
-fn system_from(l: &[u8], at: usize) -> TargetRead
+fn system_from(l: &[u8], at: usize) -> Result<Aim, Reason>
     ensures result_value { target_read l.now result ≡ system_from (fields_at l.now at) }
     ensures target_fits { TargetFits l.now result }
 {
     let f = leaf_fields::next_field(l, at);
-    let Field::Taken(s) = f else {
-        return TargetRead::Refused(Reason::Missing);
+    let Some(s) = f else {
+        return Err(Reason::Missing);
     };
     let read = system_target(leaf_fields::letters_of(l, s));
     match read {
-        AttributeRead::Known(target) => TargetRead::Read(Aim {
+        Some(target) => Ok(Aim {
             target,
-            name: Field::Nothing,
+            name: None,
             next: s.end,
         }),
-        AttributeRead::Unknown => TargetRead::Refused(Reason::UnknownWord),
+        None => Err(Reason::UnknownWord),
     }
 }
 
 // The id and the attribute after another word.
-fn named_from(l: &[u8], at: usize, kind: Named) -> TargetRead
+fn named_from(l: &[u8], at: usize, kind: Named) -> Result<Aim, Reason>
     ensures result_value { target_read l.now result ≡ named_from (attribute_of kind) (fields_at l.now at) }
     ensures target_fits { TargetFits l.now result }
 {
     let f = leaf_fields::next_field(l, at);
-    let Field::Taken(id) = f else {
-        return TargetRead::Refused(Reason::Missing);
+    let Some(id) = f else {
+        return Err(Reason::Missing);
     };
     let g = leaf_fields::next_field(l, id.end);
-    let Field::Taken(s) = g else {
-        return TargetRead::Refused(Reason::Missing);
+    let Some(s) = g else {
+        return Err(Reason::Missing);
     };
     let read = attribute(kind, leaf_fields::letters_of(l, s));
     match read {
-        AttributeRead::Known(target) => TargetRead::Read(Aim {
+        Some(target) => Ok(Aim {
             target,
-            name: Field::Taken(id),
+            name: Some(id),
             next: s.end,
         }),
-        AttributeRead::Unknown => TargetRead::Refused(Reason::UnknownWord),
+        None => Err(Reason::UnknownWord),
     }
 }
 
@@ -177,13 +164,13 @@ fn is_link_word(w: &[u8]) -> bool
     leaf_letters::equal(w, b"PUMP")
 }
 
-pub fn read_target(l: &[u8], at: usize) -> TargetRead
+pub fn read_target(l: &[u8], at: usize) -> Result<Aim, Reason>
     ensures result_value { target_read l.now result ≡ aim_from (fields_at l.now at) }
     ensures target_fits { TargetFits l.now result }
 {
     let f = leaf_fields::next_field(l, at);
-    let Field::Taken(s) = f else {
-        return TargetRead::Refused(Reason::Missing);
+    let Some(s) = f else {
+        return Err(Reason::Missing);
     };
     let w = leaf_fields::letters_of(l, s);
     if leaf_letters::equal(w, b"SYSTEM") {
@@ -198,7 +185,7 @@ pub fn read_target(l: &[u8], at: usize) -> TargetRead
     if is_link_word(w) {
         return named_from(l, s.end, Named::Link);
     }
-    TargetRead::Refused(Reason::UnknownWord)
+    Err(Reason::UnknownWord)
 }
 
 // ---- the value
@@ -219,22 +206,22 @@ fn is_time(t: Target) -> bool
 }
 
 // The value of a condition on the target.
-pub fn read_value(target: Target, l: &[u8], at: usize) -> ValueRead
+pub fn read_value(target: Target, l: &[u8], at: usize) -> Result<Value, Reason>
     ensures { value_read result ≡ value_of target (fields_at l.now at) }
 {
     let f = leaf_fields::next_field(l, at);
-    let Field::Taken(s) = f else {
-        return ValueRead::Refused(Reason::Missing);
+    let Some(s) = f else {
+        return Err(Reason::Missing);
     };
     let w = leaf_fields::letters_of(l, s);
     if leaf_letters::equal(w, b"OPEN") {
-        return ValueRead::Read(Value::Status(LinkStatus::Open));
+        return Ok(Value::Status(LinkStatus::Open));
     }
     if leaf_letters::equal(w, b"CLOSED") {
-        return ValueRead::Read(Value::Status(LinkStatus::Closed));
+        return Ok(Value::Status(LinkStatus::Closed));
     }
     if leaf_letters::equal(w, b"ACTIVE") {
-        return ValueRead::Read(Value::Status(LinkStatus::Active));
+        return Ok(Value::Status(LinkStatus::Active));
     }
     if is_time(target) {
         return rule_values::time_value(w, leaf_fields::field_or(l, s.end, b""));
@@ -244,49 +231,43 @@ pub fn read_value(target: Target, l: &[u8], at: usize) -> ValueRead
 
 // ---- a condition
 
-#[derive(Clone, Copy)]
-pub enum ConditionRead {
-    Read(Condition),
-    Refused(Reason),
-}
-
 // What stands after the target: the comparison and the value.
-fn condition_on(l: &[u8], aim: Aim, operator: Operator) -> ConditionRead
+fn condition_on(l: &[u8], aim: Aim, operator: Operator) -> Result<Condition, Reason>
     ensures result_value { condition_read l.now result ≡ condition_on operator (aim_in l.now aim) (fields_at l.now aim.next) }
     ensures condition_fits { MayFit l.now aim.name → ConditionFits l.now result }
 {
     let f = leaf_fields::next_field(l, aim.next);
-    let Field::Taken(s) = f else {
-        return ConditionRead::Refused(Reason::Missing);
+    let Some(s) = f else {
+        return Err(Reason::Missing);
     };
     let word = rule_values::read_comparison(leaf_fields::letters_of(l, s));
-    let ComparisonRead::Known(comparison) = word else {
-        return ConditionRead::Refused(Reason::UnknownWord);
+    let Some(comparison) = word else {
+        return Err(Reason::UnknownWord);
     };
     let target = aim.target;
     let name = aim.name;
     let read = read_value(target, l, s.end);
     match read {
-        ValueRead::Read(value) => ConditionRead::Read(Condition {
+        Ok(value) => Ok(Condition {
             operator,
             target,
             name,
             comparison,
             value,
         }),
-        ValueRead::Refused(why) => ConditionRead::Refused(why),
+        Err(why) => Err(why),
     }
 }
 
 // The condition after a line's first word.
-pub fn read_rule_condition(l: &[u8], at: usize, operator: Operator) -> ConditionRead
+pub fn read_rule_condition(l: &[u8], at: usize, operator: Operator) -> Result<Condition, Reason>
     ensures result_value { condition_read l.now result ≡ condition_of operator (fields_at l.now at) }
     ensures condition_fits { ConditionFits l.now result }
 {
     let read = read_target(l, at);
     match read {
-        TargetRead::Read(aim) => condition_on(l, aim, operator),
-        TargetRead::Refused(why) => ConditionRead::Refused(why),
+        Ok(aim) => condition_on(l, aim, operator),
+        Err(why) => Err(why),
     }
 }
 
@@ -298,50 +279,38 @@ pub struct ActionHead {
     pub id: Span,
 }
 
-#[derive(Clone, Copy)]
-pub enum HeadRead {
-    Read(ActionHead),
-    Refused(Reason),
-}
-
 // The kind word and the link's id after a line's first word.
-pub fn read_action_head(l: &[u8], at: usize) -> HeadRead
+pub fn read_action_head(l: &[u8], at: usize) -> Result<ActionHead, Reason>
     ensures result_value { head_read l.now result ≡ head_from (fields_at l.now at) }
     ensures head_fits { HeadFits l.now result }
 {
     let f = leaf_fields::next_field(l, at);
-    let Field::Taken(kind) = f else {
-        return HeadRead::Refused(Reason::Missing);
+    let Some(kind) = f else {
+        return Err(Reason::Missing);
     };
     let g = leaf_fields::next_field(l, kind.end);
-    let Field::Taken(id) = g else {
-        return HeadRead::Refused(Reason::Missing);
+    let Some(id) = g else {
+        return Err(Reason::Missing);
     };
-    HeadRead::Read(ActionHead { kind, id })
+    Ok(ActionHead { kind, id })
 }
 
-#[derive(Clone, Copy)]
-pub enum KindRead {
-    Fits,
-    Refused(Reason),
-}
-
-fn of_kind(is: bool) -> KindRead
+fn of_kind(is: bool) -> Result<(), Reason>
     ensures { kind_read result ≡ of_kind is }
 {
     if is {
-        KindRead::Fits
+        Ok(())
     } else {
-        KindRead::Refused(Reason::WrongKind)
+        Err(Reason::WrongKind)
     }
 }
 
 // Whether a link, which is a pipe, a pump or a valve, is of the kind that the word names.
-pub fn kind_fits(w: &[u8], pipe: bool, pump: bool, valve: bool) -> KindRead
+pub fn kind_fits(w: &[u8], pipe: bool, pump: bool, valve: bool) -> Result<(), Reason>
     ensures { (k : LinkKind) → pipe ≡ is_pipe k → pump ≡ is_pump k → valve ≡ is_valve k → kind_read result ≡ kind_fits w.now k }
 {
     if leaf_letters::equal(w, b"LINK") {
-        return KindRead::Fits;
+        return Ok(());
     }
     if leaf_letters::equal(w, b"PIPE") {
         return of_kind(pipe);
@@ -352,32 +321,32 @@ pub fn kind_fits(w: &[u8], pipe: bool, pump: bool, valve: bool) -> KindRead
     if leaf_letters::equal(w, b"PUMP") {
         return of_kind(pump);
     }
-    KindRead::Refused(Reason::UnknownWord)
+    Err(Reason::UnknownWord)
 }
 
 // What stands after the link's id: STATUS or SETTING, IS, and the value.
-pub fn read_deed(l: &[u8], at: usize) -> ValueRead
+pub fn read_deed(l: &[u8], at: usize) -> Result<Value, Reason>
     ensures { value_read result ≡ deed_from (fields_at l.now at) }
 {
     let f = leaf_fields::next_field(l, at);
-    let Field::Taken(what) = f else {
-        return ValueRead::Refused(Reason::Missing);
+    let Some(what) = f else {
+        return Err(Reason::Missing);
     };
     let g = leaf_fields::next_field(l, what.end);
-    let Field::Taken(is) = g else {
-        return ValueRead::Refused(Reason::Missing);
+    let Some(is) = g else {
+        return Err(Reason::Missing);
     };
     if leaf_letters::equal(leaf_fields::letters_of(l, is), b"IS") {
         let h = leaf_fields::next_field(l, is.end);
-        let Field::Taken(v) = h else {
-            return ValueRead::Refused(Reason::Missing);
+        let Some(v) = h else {
+            return Err(Reason::Missing);
         };
         return rule_values::deed(
             leaf_fields::letters_of(l, what),
             leaf_fields::letters_of(l, v),
         );
     }
-    ValueRead::Refused(Reason::UnknownWord)
+    Err(Reason::UnknownWord)
 }
 
 // ---- the first word of a rule's line

@@ -1,4 +1,5 @@
 -- The group of a sketch judged: each refusal in its order, and else the group is taken. Assumes nothing.
+use Rattle.std.specs.Prelude.{None, Option, Some}
 use Prim.Native.Nat.{ℕ, ◌+◌, ◌≤◌, ◌<◌}
 use borrow.Author.Tests.{lt-ltb, le-ltb, le-leb, lt-leb}
 use mathlib.Core.Path.{◌≡◌, ap, ◌∙◌, subst}
@@ -7,10 +8,7 @@ use mathlib.Core.List.{List}
 use lib.ListN.{length}
 use Rattle.leaf_fields.specs.Fields.{part, name_in}
 use Rattle.leaf_fields.specs.declared.Span.{Span}
-use Rattle.leaf_fields.specs.declared.Field.{Field}
-use Rattle.leaf_fields.specs.declared.Field.TheVariants.{Taken, Nothing}
 use Rattle.scope.specs.declared.Reason.TheVariants.{Used, NoCondition, NoAction, NoId, NoRoom}
-use Rattle.scope.specs.declared.Found.TheVariants.{At, Nowhere}
 use Rattle.scope.specs.Records.{Network, rule_ids, lookup}
 use Rattle.scope.specs.Values.{bad}
 use Rattle.scope.specs.Rules.{Draft, add_rule, judged}
@@ -30,20 +28,20 @@ module _ {text : List ℕ} {d : Draft} {q : Sketch} (k : Sketched text d q) (m :
     no-action e = rw (k.conditions ∙ ec, k.actions ∙ e)
 
     module _ (ea : q.actions ≡ true) where
-      pub no-id : q.id ≡ Nothing → judged d m ≡ bad NoId
+      pub no-id : q.id ≡ None → judged d m ≡ bad NoId
       unfolding judged
       no-id e = rw (k.conditions ∙ ec, k.actions ∙ ea, k.id ∙ ap (opt_in text) e)
 
-      module _ (id : Span) (ei : q.id ≡ Taken id) where
+      module _ (id : Span) (ei : q.id ≡ Some id) where
         is-added : judged d m ≡ add_rule (name_in text id) d m
         unfolding judged
         is-added = rw (k.conditions ∙ ec, k.actions ∙ ea, k.id ∙ ap (opt_in text) ei)
 
-        pub used : {i : ℕ} → lookup (rule_ids m) (part id.at id.end text) ≡ At i → judged d m ≡ bad Used
+        pub used : {i : ℕ} → lookup (rule_ids m) (part id.at id.end text) ≡ Some i → judged d m ≡ bad Used
         unfolding add_rule
         used e = is-added ∙ rw e
 
-        module _ (free : lookup (rule_ids m) (part id.at id.end text) ≡ Nowhere) where
+        module _ (free : lookup (rule_ids m) (part id.at id.end text) ≡ None) where
           pub rules-full : room_rules ≤ length m.rules → judged d m ≡ bad NoRoom
           unfolding add_rule
           rules-full h = is-added ∙ rw (free, le-ltb (length m.rules) room_rules h)
@@ -56,7 +54,7 @@ module _ {text : List ℕ} {d : Draft} {q : Sketch} (k : Sketched text d q) (m :
           unfolding add_rule
           rule_fits h h2 = record {
             whole = is-added ∙ rw (free, lt-ltb (length m.rules) room_rules h, le-leb (length m.clauses + length d.clauses) room_clauses h2);
-            fits = subst (λ (f : Field). MayFit text f) ei k.fit;
+            fits = subst (λ (f : Option Span). MayFit text f) ei k.fit;
             rules = h;
             clauses = h2;
           }

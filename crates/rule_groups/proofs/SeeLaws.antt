@@ -1,4 +1,5 @@
 -- The sketch of a group with one line more. Assumes nothing.
+use Rattle.std.specs.Prelude.{Some}
 use Prim.Native.Nat.{ℕ, ◌+◌}
 use native.Mathlib.Omega.{arith}
 use mathlib.Core.Path.{◌≡◌, refl, ◌∙◌}
@@ -7,7 +8,6 @@ use mathlib.Core.List.{List, [], ◌∷◌, ◌++◌}
 use lib.ListN.{length, length-append}
 use Rattle.leaf_fields.specs.Fields.{name_in, Fits}
 use Rattle.leaf_fields.specs.declared.Span.{Span}
-use Rattle.leaf_fields.specs.declared.Field.TheVariants.{Taken}
 use Rattle.scope.specs.Records.{Condition, Action, Clause, condition, action}
 use Rattle.scope.specs.Rules.{Draft, is_condition, is_action, some?}
 use Rattle.rule_lines.specs.Lines.{said_id, said_rank, said_condition, said_action, with_said}
@@ -41,7 +41,7 @@ long-more cs c e = omega (arith, length-append cs (c ∷ []), e)
 -- ---- the sketch of a draft with one line more
 module _ {text : List ℕ} {d : Draft} {q : Sketch} (h : Sketched text d q) where
   pub see-id : (s : Span) → Fits text s → Sketched text (with_said (said_id (name_in text s)) d)
-      (record { id = Taken s; ranked = q.ranked; priority = q.priority; acting = q.acting; otherwise = q.otherwise; clauses = q.clauses; conditions = q.conditions; actions = q.actions })
+      (record { id = Some s; ranked = q.ranked; priority = q.priority; acting = q.acting; otherwise = q.otherwise; clauses = q.clauses; conditions = q.conditions; actions = q.actions })
   see-id s k = record { id = refl; fit = k; rank = h.rank; acting = h.acting; otherwise = h.otherwise; long = h.long; conditions = h.conditions; actions = h.actions }
 
   pub see-rank : (n : ℕ) → Sketched text (with_said (said_rank n) d)

@@ -1,6 +1,6 @@
 -- The sketch of a group, which the code makes of its lines, and the group judged by it. The rules themselves stand in scope's Rules. Assumes nothing.
-use Rattle.std.specs.Prelude.{ℕ, ◌+◌, ◌≤◌, ◌<◌, ◌≡◌, Bool, true, false, List, length}
-use Rattle.std.proofs.Math.Option.{Option, none, some}
+use Rattle.scope.specs.declared.Reason.{Reason}
+use Rattle.std.specs.Prelude.{ℕ, ◌+◌, ◌≤◌, ◌<◌, ◌≡◌, Bool, true, false, List, length, Err, None, Ok, Option, Result, Some}
 use Rattle.leaf_fields.specs.Fields.{name_in, Fits}
 use Rattle.leaf_fields.specs.declared.Span.{Span}
 use Rattle.scope.specs.Records.{Network}
@@ -9,15 +9,11 @@ use Rattle.scope.specs.Rules.{Draft, is_condition, is_action, some?, with_rule}
 use Rattle.scope.specs.Sections.{room_rules, room_clauses}
 use Rattle.rule_clauses.specs.Clauses.{opt_in, MayFit}
 use Rattle.rule_groups.specs.declared.Sketch.{Sketch}
-use Rattle.rule_groups.specs.declared.SketchRead.{SketchRead}
-use Rattle.rule_groups.specs.declared.SketchRead.TheVariants as sketch
-use Rattle.rule_groups.specs.declared.Judged.{Judged}
-use Rattle.rule_groups.specs.declared.Judged.TheVariants as judge
 
 -- ---- the sketch of a group
 abbrev pub rank_in : Bool → ℕ → Option ℕ
-rank_in true n = some n
-rank_in false n = none
+rank_in true n = Some n
+rank_in false n = None
 
 pub record Sketched (text : List ℕ) (d : Draft) (q : Sketch) : Type 0 where
   pub id : d.id ≡ opt_in text q.id
@@ -26,12 +22,12 @@ pub record Sketched (text : List ℕ) (d : Draft) (q : Sketch) : Type 0 where
   pub acting : d.acting ≡ q.acting
   pub otherwise : d.otherwise ≡ q.otherwise
   pub long : length d.clauses ≡ q.clauses
-  pub conditions : some? is_condition d.clauses ≡ q.conditions
-  pub actions : some? is_action d.clauses ≡ q.actions
+  pub conditions : Some? is_condition d.clauses ≡ q.conditions
+  pub actions : Some? is_action d.clauses ≡ q.actions
 
-abbrev pub SketchAs : List ℕ → Read Draft → SketchRead → Type 0
-SketchAs text o (sketch.Good q) = (d : Draft) × (o ≡ good d) × Sketched text d q
-SketchAs text o (sketch.Refused why) = o ≡ bad why
+abbrev pub SketchAs : List ℕ → Read Draft → Result Sketch Reason → Type 0
+SketchAs text o (Ok q) = (d : Draft) × (o ≡ good d) × Sketched text d q
+SketchAs text o (Err why) = o ≡ bad why
 
 -- ---- the group judged
 pub record Fine (text : List ℕ) (d : Draft) (m : Network) (o : Read Network) (id : Span) : Type 0 where
@@ -40,6 +36,6 @@ pub record Fine (text : List ℕ) (d : Draft) (m : Network) (o : Read Network) (
   pub rules : length m.rules < room_rules
   pub clauses : length m.clauses + length d.clauses ≤ room_clauses
 
-abbrev pub JudgedAs : List ℕ → Draft → Network → Read Network → Judged → Type 0
-JudgedAs text d m o (judge.Good id) = Fine text d m o id
-JudgedAs text d m o (judge.Refused why) = o ≡ bad why
+abbrev pub JudgedAs : List ℕ → Draft → Network → Read Network → Result Span Reason → Type 0
+JudgedAs text d m o (Ok id) = Fine text d m o id
+JudgedAs text d m o (Err why) = o ≡ bad why

@@ -10,16 +10,16 @@ ghost use Rattle.table_rows.specs.Holding.{Words};
 ghost use Rattle.rule_lines.specs.Lines.{with_said, said_read, LineFits};
 ghost use Rattle.rule_groups.specs.Sketches.{Sketched, SketchAs, JudgedAs};
 
-use leaf_fields::{Field, Span};
+use leaf_fields::{Span};
 use rule_lines::LineRead;
-use scope::{Counts, Found, Kind, Reason};
+use scope::{Counts, Kind, Reason};
 
 // ---- the lines
 
 // What the lines of a group have said so far; of its clauses only how many there are, and of which kinds.
 #[derive(Clone, Copy)]
 pub struct Sketch {
-    pub id: Field,
+    pub id: Option<Span>,
     pub ranked: bool,
     pub priority: u64,
     pub acting: bool,
@@ -29,17 +29,11 @@ pub struct Sketch {
     pub actions: bool,
 }
 
-#[derive(Clone, Copy)]
-pub enum SketchRead {
-    Good(Sketch),
-    Refused(Reason),
-}
-
 pub fn no_sketch() -> Sketch
     ensures { (text : List ℕ) → Sketched text no_draft result }
 {
     Sketch {
-        id: Field::Nothing,
+        id: None,
         ranked: false,
         priority: 0,
         acting: false,
@@ -51,14 +45,14 @@ pub fn no_sketch() -> Sketch
 }
 
 // The sketch with one line more.
-pub fn see(q: Sketch, read: LineRead) -> SketchRead
+pub fn see(q: Sketch, read: LineRead) -> Result<Sketch, Reason>
     requires { q.clauses + 1 < 18446744073709551616 }
     ensures { (text : List ℕ) (d : Draft) → Sketched text d q → LineFits text read → SketchAs text (on_read (said_read text read) (λ s. good (with_said s d))) result }
 {
     let id = q.id;
     match read {
-        LineRead::Named(s) => SketchRead::Good(Sketch {
-            id: Field::Taken(s),
+        LineRead::Named(s) => Ok(Sketch {
+            id: Some(s),
             ranked: q.ranked,
             priority: q.priority,
             acting: q.acting,
@@ -67,7 +61,7 @@ pub fn see(q: Sketch, read: LineRead) -> SketchRead
             conditions: q.conditions,
             actions: q.actions,
         }),
-        LineRead::Ranked(n) => SketchRead::Good(Sketch {
+        LineRead::Ranked(n) => Ok(Sketch {
             id,
             ranked: true,
             priority: n,
@@ -77,7 +71,7 @@ pub fn see(q: Sketch, read: LineRead) -> SketchRead
             conditions: q.conditions,
             actions: q.actions,
         }),
-        LineRead::Condition(_) => SketchRead::Good(Sketch {
+        LineRead::Condition(_) => Ok(Sketch {
             id,
             ranked: q.ranked,
             priority: q.priority,
@@ -87,7 +81,7 @@ pub fn see(q: Sketch, read: LineRead) -> SketchRead
             conditions: true,
             actions: q.actions,
         }),
-        LineRead::Action(a) => SketchRead::Good(Sketch {
+        LineRead::Action(a) => Ok(Sketch {
             id,
             ranked: q.ranked,
             priority: q.priority,
@@ -97,20 +91,14 @@ pub fn see(q: Sketch, read: LineRead) -> SketchRead
             conditions: q.conditions,
             actions: true,
         }),
-        LineRead::Refused(why) => SketchRead::Refused(why),
+        LineRead::Refused(why) => Err(why),
     }
 }
 
 // ---- the group
 
-#[derive(Clone, Copy)]
-pub enum Judged {
-    Good(Span),
-    Refused(Reason),
-}
-
 // The group of that sketch: no condition, no action, no id, its id used, no room, in that order. Some of its clauses may stand in the words already.
-pub fn judge_group(text: &[u8], q: Sketch, words: &[u64], s: Counts) -> Judged
+pub fn judge_group(text: &[u8], q: Sketch, words: &[u64], s: Counts) -> Result<Span, Reason>
     requires { (m : Network) × Words text.now m words.now × (s.rules ≡ length m.rules) × (s.clauses ≤ room_clauses) }
     ensures { (m : Network) (cs : List Clause) (d : Draft) → Words text.now (with_clauses cs m) words.now
         → s.rules ≡ length m.rules → s.clauses ≡ length m.clauses → Sketched text.now d q
@@ -119,8 +107,8 @@ pub fn judge_group(text: &[u8], q: Sketch, words: &[u64], s: Counts) -> Judged
     if q.conditions {
         if q.actions {
             let named = q.id;
-            let Field::Taken(id) = named else {
-                return Judged::Refused(Reason::NoId);
+            let Some(id) = named else {
+                return Err(Reason::NoId);
             };
             let found = table_find::find_named(
                 text,
@@ -129,17 +117,17 @@ pub fn judge_group(text: &[u8], q: Sketch, words: &[u64], s: Counts) -> Judged
                 s.rules,
                 leaf_fields::letters_of(text, id),
             );
-            let Found::Nowhere = found else {
-                return Judged::Refused(Reason::Used);
+            let None = found else {
+                return Err(Reason::Used);
             };
             if s.rules < table_rows::RULES_MOST {
                 if q.clauses <= table_rows::CLAUSES_MOST - s.clauses {
-                    return Judged::Good(id);
+                    return Ok(id);
                 }
             }
-            return Judged::Refused(Reason::NoRoom);
+            return Err(Reason::NoRoom);
         }
-        return Judged::Refused(Reason::NoAction);
+        return Err(Reason::NoAction);
     }
-    Judged::Refused(Reason::NoCondition)
+    Err(Reason::NoCondition)
 }

@@ -1,4 +1,5 @@
 -- What a line of a group says, and what it makes of the draft. Assumes nothing.
+use Rattle.std.specs.Prelude.{None, Option, Some}
 use Prim.Native.Nat.{ℕ, ◌+◌, ◌≤◌}
 use native.Mathlib.Omega.{arith}
 use mathlib.Core.Path.{◌≡◌, refl, ap, ◌∙◌}
@@ -7,11 +8,7 @@ use mathlib.Core.List.{List, [], ◌∷◌}
 use lib.ListN.{length, take, get_or, length-append, length-take}
 use Rattle.leaf_fields.specs.Fields.{Name, name_in, Fits}
 use Rattle.leaf_fields.specs.declared.Span.{Span}
-use Rattle.leaf_fields.specs.declared.Field.{Field}
-use Rattle.leaf_fields.specs.declared.Field.TheVariants.{Taken, Nothing}
 use Rattle.leaf_fields.proofs.FieldLaws.{part-take}
-use Rattle.scope.specs.declared.Found.{Found}
-use Rattle.scope.specs.declared.Found.TheVariants.{At}
 use Rattle.scope.specs.declared.Operator.TheVariants as operator
 use Rattle.scope.specs.Records.{Network, Action, Clause, condition, action, with_clauses, no_link}
 use Rattle.scope.specs.Values.{Read, good, bad, on_read, count_from}
@@ -58,13 +55,13 @@ module _ (text : List ℕ) (end : ℕ) where
   name-text : (s : Span) → Fits (take end text) s → name_in (take end text) s ≡ name_in text s
   name-text s h = let k : s.end ≤ end = omega (arith, h.inside, length-take end text) in rw (part-take s.at s.end end text k)
 
-  may-text : (f : Field) → MayFit (take end text) f → MayFit text f
-  may-text (Taken s) h = fits-text s h
-  may-text Nothing h = tt
+  may-text : (f : Option Span) → MayFit (take end text) f → MayFit text f
+  may-text (Some s) h = fits-text s h
+  may-text None h = tt
 
-  opt-text : (f : Field) → MayFit (take end text) f → opt_in (take end text) f ≡ opt_in text f
-  opt-text (Taken s) h = rw (name-text s h)
-  opt-text Nothing h = refl
+  opt-text : (f : Option Span) → MayFit (take end text) f → opt_in (take end text) f ≡ opt_in text f
+  opt-text (Some s) h = rw (name-text s h)
+  opt-text None h = refl
 
   pub line-fits-text : (r : LineRead) → LineFits (take end text) r → LineFits text r
   line-fits-text (line.Named s) h = fits-text s h
@@ -109,6 +106,6 @@ said_same m cs t u [] = refl
 said_same m cs t u (w ∷ fs) = by-same (rule_word w.letters) m cs t u fs
 
 -- ---- an action whose link was found
-pub at-is : (otherwise : Bool) (m : Network) (h : Head) (fs : List Name) (f : Found) (i : ℕ) (fit : Read Unit) → f ≡ At i → kind_fits h.kind.letters (get_or m.links i no_link).kind ≡ fit
+pub at-is : (otherwise : Bool) (m : Network) (h : Head) (fs : List Name) (f : Option ℕ) (i : ℕ) (fit : Read Unit) → f ≡ Some i → kind_fits h.kind.letters (get_or m.links i no_link).kind ≡ fit
     → action_at otherwise m h fs f ≡ on_read fit (λ u. on_read (deed_from fs) (λ v. good (action_with otherwise i h.id v)))
 at-is otherwise m h fs f i fit e k = rw (e, k)

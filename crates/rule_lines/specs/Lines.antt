@@ -1,5 +1,6 @@
 -- What a line of a group says, and how the code has it. The rules themselves stand in scope's Rules. Assumes nothing.
-use Rattle.std.specs.Prelude.{ℕ, Bool, true, false, List, [], ◌∷◌}
+use Rattle.scope.specs.declared.Reason.{Reason}
+use Rattle.std.specs.Prelude.{ℕ, Bool, true, false, List, [], ◌∷◌, Err, Ok, Result}
 use Rattle.leaf_fields.specs.Fields.{Name, name_in, Fits}
 use Rattle.scope.specs.declared.Reason.TheVariants as reason
 use Rattle.scope.specs.declared.Operator.TheVariants as operator
@@ -10,8 +11,6 @@ use Rattle.scope.specs.Rules.{Draft, condition_of, action_of, with_id, with_prio
 use Rattle.rule_clauses.specs.Clauses.{MayFit, condition_in, rule_word}
 use Rattle.rule_clauses.specs.declared.RuleWord.{RuleWord}
 use Rattle.rule_clauses.specs.declared.RuleWord.TheVariants as word
-use Rattle.rule_lines.specs.declared.ActionRead.{ActionRead}
-use Rattle.rule_lines.specs.declared.ActionRead.TheVariants as act
 use Rattle.rule_lines.specs.declared.LineRead.{LineRead}
 use Rattle.rule_lines.specs.declared.LineRead.TheVariants as line
 
@@ -19,13 +18,13 @@ use Rattle.rule_lines.specs.declared.LineRead.TheVariants as line
 abbrev pub action_in : List ℕ → A.Action → Action
 action_in l a = record { link = a.link; name = name_in l a.name; value = a.value; otherwise = a.otherwise }
 
-abbrev pub action_read : List ℕ → ActionRead → Read Action
-action_read l (act.Read a) = good (action_in l a)
-action_read l (act.Refused why) = bad why
+abbrev pub action_read : List ℕ → Result Action Reason → Read Action
+action_read l (Ok a) = good (action_in l a)
+action_read l (Err why) = bad why
 
-abbrev pub ActionFits : List ℕ → ActionRead → Type 0
-ActionFits l (act.Read a) = Fits l a.name
-ActionFits l (act.Refused why) = Unit
+abbrev pub ActionFits : List ℕ → Result Action Reason → Type 0
+ActionFits l (Ok a) = Fits l a.name
+ActionFits l (Err why) = Unit
 
 -- ---- what a line says: the id, the priority, a condition; an action, with whether a THEN and an ELSE were read with it or before it
 pub data Said : Type 0 where

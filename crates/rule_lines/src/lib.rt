@@ -11,32 +11,24 @@ ghost use Rattle.table_rows.specs.Holding.{Words};
 ghost use Rattle.rule_clauses.specs.Clauses.{value_read, condition_read, ConditionFits, head_in, action_with, action_at};
 ghost use Rattle.rule_lines.specs.Lines.{action_read, ActionFits, said_rank, said_condition, said_action, id_said, said_read, LineFits, said_of, said_by, and_said};
 
-use leaf_counts::Count;
-use leaf_fields::{Field, Span};
-use rule_clauses::{ActionHead, ConditionRead, HeadRead, KindRead, RuleWord};
-use rule_values::ValueRead;
-use scope::{Action, Condition, Found, Kind, Operator, Reason};
+use leaf_fields::{Span};
+use rule_clauses::{ActionHead, RuleWord};
+use scope::{Action, Condition, Kind, Operator, Reason};
 
 // ---- actions
 
-#[derive(Clone, Copy)]
-pub enum ActionRead {
-    Read(Action),
-    Refused(Reason),
-}
-
-fn action_value(read: ValueRead, link: usize, name: Span, otherwise: bool) -> ActionRead
+fn action_value(read: Result<Value, Reason>, link: usize, name: Span, otherwise: bool) -> Result<Action, Reason>
     ensures result_value { (l : List ℕ) → action_read l result ≡ on_read (value_read read) (λ v. good (action_with otherwise link (name_in l name) v)) }
     ensures action_fits { (l : List ℕ) → Fits l name → ActionFits l result }
 {
     match read {
-        ValueRead::Read(value) => ActionRead::Read(Action {
+        Ok(value) => Ok(Action {
             link,
             name,
             value,
             otherwise,
         }),
-        ValueRead::Refused(why) => ActionRead::Refused(why),
+        Err(why) => Err(why),
     }
 }
 
@@ -48,7 +40,7 @@ fn action_at(
     text: &[u8],
     words: &[u64],
     links: usize,
-) -> ActionRead
+) -> Result<Action, Reason>
     requires { (m : Network) × Words text.now m words.now × (links ≡ length m.links) }
     ensures result_value { (m : Network) → Words text.now m words.now → links ≡ length m.links
         → action_read l.now result ≡ action_at otherwise m (head_in l.now head) (fields_at l.now head.id.end)
@@ -64,16 +56,16 @@ fn action_at(
         links,
         leaf_fields::letters_of(l, id),
     );
-    let Found::At(i) = found else {
-        return ActionRead::Refused(Reason::NotFound);
+    let Some(i) = found else {
+        return Err(Reason::NotFound);
     };
     let pipe = table_find::is_pipe(words, i);
     let pump = table_find::is_pump(words, i);
     let valve = table_find::is_valve(words, i);
     let fits = rule_clauses::kind_fits(leaf_fields::letters_of(l, kind), pipe, pump, valve);
     match fits {
-        KindRead::Fits => action_value(rule_clauses::read_deed(l, id.end), i, id, otherwise),
-        KindRead::Refused(why) => ActionRead::Refused(why),
+        Ok(()) => action_value(rule_clauses::read_deed(l, id.end), i, id, otherwise),
+        Err(why) => Err(why),
     }
 }
 
@@ -85,7 +77,7 @@ fn read_rule_action(
     text: &[u8],
     words: &[u64],
     links: usize,
-) -> ActionRead
+) -> Result<Action, Reason>
     requires { (m : Network) × Words text.now m words.now × (links ≡ length m.links) }
     ensures result_value { (m : Network) → Words text.now m words.now → links ≡ length m.links
         → action_read l.now result ≡ action_of otherwise m (fields_at l.now at) }
@@ -93,8 +85,8 @@ fn read_rule_action(
 {
     let read = rule_clauses::read_action_head(l, at);
     match read {
-        HeadRead::Read(head) => action_at(l, head, otherwise, text, words, links),
-        HeadRead::Refused(why) => ActionRead::Refused(why),
+        Ok(head) => action_at(l, head, otherwise, text, words, links),
+        Err(why) => Err(why),
     }
 }
 
@@ -118,27 +110,27 @@ pub enum LineRead {
     Refused(Reason),
 }
 
-fn as_condition(read: ConditionRead) -> LineRead
+fn as_condition(read: Result<Condition, Reason>) -> LineRead
     ensures result_value { (l : List ℕ) → said_read l result ≡ on_read (condition_read l read) (λ c. good (said_condition c)) }
     ensures line_fits { (l : List ℕ) → ConditionFits l read → LineFits l result }
 {
     match read {
-        ConditionRead::Read(c) => LineRead::Condition(c),
-        ConditionRead::Refused(why) => LineRead::Refused(why),
+        Ok(c) => LineRead::Condition(c),
+        Err(why) => LineRead::Refused(why),
     }
 }
 
-fn as_action(read: ActionRead, acting: bool, otherwise: bool) -> LineRead
+fn as_action(read: Result<Action, Reason>, acting: bool, otherwise: bool) -> LineRead
     ensures result_value { (l : List ℕ) → said_read l result ≡ on_read (action_read l read) (λ a. good (said_action acting otherwise a)) }
     ensures line_fits { (l : List ℕ) → ActionFits l read → LineFits l result }
 {
     match read {
-        ActionRead::Read(action) => LineRead::Action(Acted {
+        Ok(action) => LineRead::Action(Acted {
             action,
             acting,
             otherwise,
         }),
-        ActionRead::Refused(why) => LineRead::Refused(why),
+        Err(why) => LineRead::Refused(why),
     }
 }
 
@@ -147,7 +139,7 @@ fn named_line(l: &[u8], at: usize) -> LineRead
     ensures line_fits { LineFits l.now result }
 {
     let f = leaf_fields::next_field(l, at);
-    let Field::Taken(id) = f else {
+    let Some(id) = f else {
         return LineRead::Refused(Reason::Missing);
     };
     LineRead::Named(id)
@@ -158,13 +150,13 @@ fn ranked_line(l: &[u8], at: usize) -> LineRead
     ensures line_fits { LineFits l.now result }
 {
     let f = leaf_fields::next_field(l, at);
-    let Field::Taken(s) = f else {
+    let Some(s) = f else {
         return LineRead::Refused(Reason::Missing);
     };
     let n = leaf_counts::read_count(leaf_fields::letters_of(l, s));
     match n {
-        Count::Whole(n) => LineRead::Ranked(n),
-        Count::Uncounted => LineRead::Refused(Reason::Malformed),
+        Some(n) => LineRead::Ranked(n),
+        None => LineRead::Refused(Reason::Malformed),
     }
 }
 
@@ -249,7 +241,7 @@ pub fn read_line(
     ensures line_fits { LineFits l.now result }
 {
     let f = leaf_fields::next_field(l, at);
-    let Field::Taken(s) = f else {
+    let Some(s) = f else {
         return LineRead::Refused(Reason::Missing);
     };
     let word = rule_clauses::rule_word(leaf_fields::letters_of(l, s));

@@ -1,4 +1,5 @@
 -- A group's lines, read one after another, and the sketch that goes with them. Assumes nothing.
+use Rattle.std.specs.Prelude.{Err, Ok, Result}
 use Prim.Native.Nat.{ℕ, ◌+◌, ◌≤◌, ◌<◌}
 use native.Mathlib.Omega.{arith}
 use mathlib.Core.Path.{◌≡◌, refl, sym, ap, ap₂, ◌∙◌, subst}
@@ -16,8 +17,6 @@ use Rattle.rule_lines.specs.declared.LineRead.{LineRead}
 use Rattle.rule_lines.specs.Lines.{Said, with_said, said_of, said_read, LineFits}
 use Rattle.rule_lines.proofs.LineLaws.{line-said, line-fits-text, said-text, clauses-more}
 use Rattle.rule_groups.specs.declared.Sketch.{Sketch}
-use Rattle.rule_groups.specs.declared.SketchRead.{SketchRead}
-use Rattle.rule_groups.specs.declared.SketchRead.TheVariants as sketch
 use Rattle.rule_groups.specs.Sketches.{Sketched, SketchAs}
 
 pub record Going (m : Network) (text : List ℕ) (at first p : ℕ) (q : Sketch) : Type 0 where
@@ -65,13 +64,13 @@ module _ {m : Network} {text : List ℕ} {at first p : ℕ} {q : Sketch} (g : Go
   abbrev pub going-with : (e : Draft) (next : Sketch) → on_read (said_read text r) (λ x. good (with_said x g.d)) ≡ good e → Sketched text e next → Going m text at first s.end next
   going-with e next k z = record { d = e; same = next-same e k; sketched = z; below = next-below e k }
 
-  module _ (v : SketchRead) (ev : SketchAs text (on_read (said_read text r) (λ x. good (with_said x g.d))) v) where
-    pub seen-good : (next : Sketch) → v ≡ sketch.Good next → (e : Draft) × (on_read (said_read text r) (λ x. good (with_said x g.d)) ≡ good e) × Sketched text e next
-    seen-good next e = subst (λ (x : SketchRead). SketchAs text (on_read (said_read text r) (λ x. good (with_said x g.d))) x) e ev
+  module _ (v : Result Sketch Reason) (ev : SketchAs text (on_read (said_read text r) (λ x. good (with_said x g.d))) v) where
+    pub seen-good : (next : Sketch) → v ≡ Ok next → (e : Draft) × (on_read (said_read text r) (λ x. good (with_said x g.d)) ≡ good e) × Sketched text e next
+    seen-good next e = subst (λ (x : Result Sketch Reason). SketchAs text (on_read (said_read text r) (λ x. good (with_said x g.d))) x) e ev
 
-    pub going-bad : (why : Reason) → v ≡ sketch.Refused why → lines_of m no_draft (group_fields text at first) ≡ bad why
+    pub going-bad : (why : Reason) → v ≡ Err why → lines_of m no_draft (group_fields text at first) ≡ bad why
     going-bad why e =
-        let k = subst (λ (x : SketchRead). SketchAs text (on_read (said_read text r) (λ x. good (with_said x g.d))) x) e ev in
+        let k = subst (λ (x : Result Sketch Reason). SketchAs text (on_read (said_read text r) (λ x. good (with_said x g.d))) x) e ev in
         g.same ∙ lines_are ∙ rw k
 
 pub falls : {text : List ℕ} {at p : ℕ} {s : Span} → NextHere text at p s → length (group_fields text at s.end) < length (group_fields text at p)

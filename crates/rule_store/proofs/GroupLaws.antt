@@ -1,4 +1,5 @@
 -- A group's clauses stored one after another, and then its rule. Assumes nothing.
+use Rattle.std.specs.Prelude.{Err, Ok, Result}
 use Prim.Native.Nat.{ℕ, ◌+◌, ◌-◌, ◌*◌, ◌≤◌, ◌<◌}
 use native.Mathlib.Omega.{arith}
 use mathlib.Core.Path.{◌≡◌, refl, sym, ap, ◌∙◌, subst}
@@ -21,8 +22,6 @@ use Rattle.table_rows.specs.Table.{splice}
 use Rattle.scope.specs.Layout.{rules_at, rules_width}
 use Rattle.scope.specs.Sections.{room_clauses, room_rules}
 use Rattle.table_rows.specs.Holding.{Words, Holds, After}
-use Rattle.table_rows.specs.declared.Kept.{Kept}
-use Rattle.table_rows.specs.declared.Kept.TheVariants.{Stored, Refused}
 use Rattle.table_rows.proofs.HoldLaws.{sits-span, add-rule, add-clause, count-links, count-rules, count-clauses, bound-clauses}
 use Rattle.rule_clauses.specs.Clauses.{condition_in}
 use Rattle.read_headers.specs.Own.{group_fields, NextHere}
@@ -31,10 +30,6 @@ use Rattle.rule_lines.specs.declared.LineRead.TheVariants as line
 use Rattle.rule_lines.specs.Lines.{action_in, Said, said_id, said_rank, said_condition, said_action, with_said, said_of, said_read, LineFits}
 use Rattle.rule_lines.proofs.LineLaws.{said_same}
 use Rattle.rule_groups.specs.declared.Sketch.{Sketch}
-use Rattle.rule_groups.specs.declared.SketchRead.{SketchRead}
-use Rattle.rule_groups.specs.declared.SketchRead.TheVariants as sketch
-use Rattle.rule_groups.specs.declared.Judged.{Judged}
-use Rattle.rule_groups.specs.declared.Judged.TheVariants as judge
 use Rattle.rule_groups.specs.Sketches.{Sketched, SketchAs, Fine, JudgedAs}
 use Rattle.rule_store.proofs.GoingLaws.{Going, going_start, line-fits, seen-good, going-with, going-bad}
 use Rattle.rule_store.specs.Group.{rule_in, PutClause, PutFitting, Put, HoldsMore, fitting, Taken, ClausesPut}
@@ -118,7 +113,7 @@ taking-words {m} t e = (with_clauses (m.clauses ++ fitting m t.going.d.clauses) 
 
 pub taking-end : {m : Network} {text : List ℕ} {at first p : ℕ} {q : Sketch} {w : List ℕ} {f : List Float} → Taking m text at first p q w f
     → group_fields text at p ≡ [] → (w0 : List ℕ) (f0 : List Float)
-    → Taken text m (lines_of m no_draft (group_fields text at first)) (sketch.Good q) w0 f0 w f
+    → Taken text m (lines_of m no_draft (group_fields text at first)) (Ok q) w0 f0 w f
 unfolding lines_of
 taking-end t e w0 f0 = (t.going.d, t.going.same ∙ rw e, t.going.sketched, t.held)
 
@@ -128,7 +123,7 @@ module _ {m : Network} {text : List ℕ} {at first p : ℕ} {q : Sketch} {w : Li
     {links : ℕ} (ek : links ≡ length m.links) (r : LineRead)
     (er : (x : Network) → Words text x w → links ≡ length x.links → said_read l r ≡ said_of x q.acting q.otherwise (fields_at l s.at)) (fr : LineFits l r)
     {base : ℕ} (eb : base ≡ length m.clauses) (w2 : List ℕ) (f2 : List Float) (put : Put text (base + q.clauses) r w f w2 f2)
-    (v : SketchRead) (see : (text : List ℕ) (d : Draft) → Sketched text d q → LineFits text r → SketchAs text (on_read (said_read text r) (λ x. good (with_said x d))) v) where
+    (v : Result Sketch Reason) (see : (text : List ℕ) (d : Draft) → Sketched text d q → LineFits text r → SketchAs text (on_read (said_read text r) (λ x. good (with_said x d))) v) where
   said : said_read l r ≡ said_of m q.acting q.otherwise (fields_at l s.at)
   said =
       let cs : List Clause = m.clauses ++ fitting m t.going.d.clauses in
@@ -146,7 +141,7 @@ module _ {m : Network} {text : List ℕ} {at first p : ℕ} {q : Sketch} {w : Li
       subst (λ (y : Draft). HoldsMore text m (fitting m y.clauses) w2 f2) z (put-more text m t.going.d w w2 f f2 t.held (base + q.clauses) placed r put x eo)
   held_on (bad why) d eo e = absurd (let z : ◌≡◌ {A = ℕ} 0 1 = cc in omega arith)
 
-  pub taking-on : (next : Sketch) → v ≡ sketch.Good next → Taking m text at first s.end next w2 f2
+  pub taking-on : (next : Sketch) → v ≡ Ok next → Taking m text at first s.end next w2 f2
   taking-on next e =
       let k = seen-good t.going s h l el r said fr v seen next e in
       record { going = going-with t.going s h l el r said fr k.0 next k.1 k.2; held = held_on (said_read text r) k.0 refl k.1 }
@@ -156,11 +151,11 @@ module _ {m : Network} {text : List ℕ} {at first p : ℕ} {q : Sketch} {w : Li
   held-bad (bad y) why eo e = put-none text m t.going.d w w2 f f2 t.held (base + q.clauses) placed r put y eo
 
   -- it is refused: the clauses before it are there, and are erased
-  pub taking-bad : (why : Reason) → v ≡ sketch.Refused why → {w0 w3 : List ℕ} {f0 f3 : List Float}
+  pub taking-bad : (why : Reason) → v ≡ Err why → {w0 w3 : List ℕ} {f0 f3 : List Float}
       → ((cs : List Clause) → length cs ≡ q.clauses → HoldsMore text m (fitting m cs) w2 f2 → (w3 ≡ w0) × (f3 ≡ f0))
-      → Taken text m (lines_of m no_draft (group_fields text at first)) (sketch.Refused why) w0 f0 w3 f3
+      → Taken text m (lines_of m no_draft (group_fields text at first)) (Err why) w0 f0 w3 f3
   taking-bad why e erased =
-      let o = subst (λ (x : SketchRead). SketchAs text (on_read (said_read text r) (λ x. good (with_said x t.going.d))) x) e seen in
+      let o = subst (λ (x : Result Sketch Reason). SketchAs text (on_read (said_read text r) (λ x. good (with_said x t.going.d))) x) e seen in
       let back = erased t.going.d.clauses t.going.sketched.long (held-bad (said_read text r) why refl o) in
       (going-bad t.going s h l el r said fr v seen why e, back.0, back.1)
 
@@ -179,24 +174,24 @@ pub judge-asked : {text : List ℕ} {m : Network} {d : Draft} {q : Sketch} {s : 
     → (x : Network) × Words text x w1 × (s.rules ≡ length x.rules) × (s.clauses ≤ room_clauses)
 judge-asked {m = m} {d = d} k = (with_clauses (m.clauses ++ fitting m d.clauses) m, k.more.words, count-rules k.was, bound-clauses k.was)
 
-fine_of : (text : List ℕ) (d : Draft) (m : Network) (o : Read Network) (r : Judged) (id : Span) → JudgedAs text d m o r → r ≡ judge.Good id → Fine text d m o id
-fine_of text d m o r id h e = subst (λ (x : Judged). JudgedAs text d m o x) e h
+fine_of : (text : List ℕ) (d : Draft) (m : Network) (o : Read Network) (r : Result Span Reason) (id : Span) → JudgedAs text d m o r → r ≡ Ok id → Fine text d m o id
+fine_of text d m o r id h e = subst (λ (x : Result Span Reason). JudgedAs text d m o x) e h
 
-module _ {text : List ℕ} {m : Network} {d : Draft} {q : Sketch} {s : Counts} {w w1 : List ℕ} {f f1 : List Float} (k : ClausesPut text m d q s w f w1 f1) (r : Judged)
+module _ {text : List ℕ} {m : Network} {d : Draft} {q : Sketch} {s : Counts} {w w1 : List ℕ} {f f1 : List Float} (k : ClausesPut text m d q s w f w1 f1) (r : Result Span Reason)
     (by-judge : (x : Network) (cs : List Clause) (e : Draft) → Words text (with_clauses cs x) w1 → s.rules ≡ length x.rules
     → s.clauses ≡ length x.clauses → Sketched text e q → JudgedAs text e x (judged e x) r) where
   judged-as : JudgedAs text d m (judged d m) r
   judged-as = by-judge m (m.clauses ++ fitting m d.clauses) d k.more.words (count-rules k.was) (count-clauses k.was) k.sketched
 
-  pub group-refused : (why : Reason) → r ≡ judge.Refused why → {w2 : List ℕ} {f2 : List Float}
+  pub group-refused : (why : Reason) → r ≡ Err why → {w2 : List ℕ} {f2 : List Float}
       → ((cs : List Clause) → s.clauses ≡ length m.clauses → length cs ≡ q.clauses → HoldsMore text m (fitting m cs) w1 f1 → (w2 ≡ w) × (f2 ≡ f))
-      → After text (judged d m) (Refused why) w f w2 f2
+      → After text (judged d m) (Err why) w f w2 f2
   group-refused why e erased =
-      let z : judged d m ≡ bad why = subst (λ (x : Judged). JudgedAs text d m (judged d m) x) e judged-as in
+      let z : judged d m ≡ bad why = subst (λ (x : Result Span Reason). JudgedAs text d m (judged d m) x) e judged-as in
       let back = erased d.clauses (count-clauses k.was) k.sketched.long k.more in
       rw z (refl, back.0, back.1)
 
-  module _ (id : Span) (e : r ≡ judge.Good id) where
+  module _ (id : Span) (e : r ≡ Ok id) where
     fine : Fine text d m (judged d m) id
     fine = fine_of text d m (judged d m) r id judged-as e
 
@@ -214,7 +209,7 @@ module _ {text : List ℕ} {m : Network} {d : Draft} {q : Sketch} {s : Counts} {
 
     pub group-stored : {w2 : List ℕ} → w2 ≡ splice w1 (rules_at + s.rules * rules_width) (rule_words (rule_in text id q s.clauses))
         → After text (judged d m)
-        (Stored (record { nodes = s.nodes; links = s.links; curves = s.curves; points = s.points; patterns = s.patterns; multipliers = s.multipliers; demands = s.demands; rules = s.rules + 1; clauses = s.clauses + q.clauses }))
+        (Ok (record { nodes = s.nodes; links = s.links; curves = s.curves; points = s.points; patterns = s.patterns; multipliers = s.multipliers; demands = s.demands; rules = s.rules + 1; clauses = s.clauses + q.clauses }))
         w f w2 f1
     group-stored ew =
         rw fine.whole (
@@ -223,22 +218,22 @@ module _ {text : List ℕ} {m : Network} {d : Draft} {q : Sketch} {s : Counts} {
         )
 
 -- ---- the group closed: its lines taken, and then its rule stored
-module _ {text : List ℕ} (at first : ℕ) {m : Network} {s : Counts} {w : List ℕ} {f : List Float} (h : Holds text m s w f) (v : SketchRead) (w1 : List ℕ) (f1 : List Float)
+module _ {text : List ℕ} (at first : ℕ) {m : Network} {s : Counts} {w : List ℕ} {f : List Float} (h : Holds text m s w f) (v : Result Sketch Reason) (w1 : List ℕ) (f1 : List Float)
     (ev : Taken text m (lines_of m no_draft (group_fields text at first)) v w f w1 f1) where
-  pub close-refused : (why : Reason) → v ≡ sketch.Refused why → After text (group_step (group_fields text at first) m) (Refused why) w f w1 f1
+  pub close-refused : (why : Reason) → v ≡ Err why → After text (group_step (group_fields text at first) m) (Err why) w f w1 f1
   unfolding group_step
   close-refused why e =
-      let k = subst (λ (x : SketchRead). Taken text m (lines_of m no_draft (group_fields text at first)) x w f w1 f1) e ev in
+      let k = subst (λ (x : Result Sketch Reason). Taken text m (lines_of m no_draft (group_fields text at first)) x w f w1 f1) e ev in
       rw k.0 (refl, k.1, k.2)
 
-  module _ (q : Sketch) (e : v ≡ sketch.Good q) where
+  module _ (q : Sketch) (e : v ≡ Ok q) where
     pub read-good : (d : Draft) × (lines_of m no_draft (group_fields text at first) ≡ good d) × Sketched text d q × HoldsMore text m (fitting m d.clauses) w1 f1
-    read-good = subst (λ (x : SketchRead). Taken text m (lines_of m no_draft (group_fields text at first)) x w f w1 f1) e ev
+    read-good = subst (λ (x : Result Sketch Reason). Taken text m (lines_of m no_draft (group_fields text at first)) x w f w1 f1) e ev
 
     pub close-written : ClausesPut text m read-good.0 q s w f w1 f1
     close-written = record { was = h; sketched = read-good.2; more = read-good.3 }
 
-    pub close-stored : (r : Kept) (w2 : List ℕ) (f2 : List Float) → ((d : Draft) → ClausesPut text m d q s w f w1 f1 → After text (judged d m) r w f w2 f2)
+    pub close-stored : (r : Result Counts Reason) (w2 : List ℕ) (f2 : List Float) → ((d : Draft) → ClausesPut text m d q s w f w1 f1 → After text (judged d m) r w f w2 f2)
         → After text (group_step (group_fields text at first) m) r w f w2 f2
     unfolding group_step
     close-stored r w2 f2 stored = rw read-good.1 (stored read-good.0 close-written)

@@ -1,5 +1,6 @@
 -- What is stored of a group: its clauses one after another, and then its rule. The rules themselves stand in scope's Rules. Assumes nothing.
-use Rattle.std.specs.Prelude.{ℕ, ◌+◌, ◌-◌, ◌*◌, ◌≤◌, ◌<◌, ◌≡◌, List, ◌++◌, length, take, Float}
+use Rattle.scope.specs.declared.Reason.{Reason}
+use Rattle.std.specs.Prelude.{ℕ, ◌+◌, ◌-◌, ◌*◌, ◌≤◌, ◌<◌, ◌≡◌, List, ◌++◌, length, take, Float, Err, Ok, Result}
 use Rattle.leaf_fields.specs.Fields.{name_in}
 use Rattle.leaf_fields.specs.declared.Span.{Span}
 use Rattle.scope.specs.declared.Counts.{Counts}
@@ -16,8 +17,6 @@ use Rattle.rule_lines.specs.declared.LineRead.{LineRead}
 use Rattle.rule_lines.specs.declared.LineRead.TheVariants as line
 use Rattle.rule_lines.specs.Lines.{action_in}
 use Rattle.rule_groups.specs.declared.Sketch.{Sketch}
-use Rattle.rule_groups.specs.declared.SketchRead.{SketchRead}
-use Rattle.rule_groups.specs.declared.SketchRead.TheVariants as sketch
 use Rattle.rule_groups.specs.Sketches.{rank_in, Sketched}
 
 -- ---- the clauses
@@ -45,9 +44,9 @@ abbrev pub fitting : Network → List Clause → List Clause
 fitting m cs = take (room_clauses - length m.clauses) cs
 
 -- the lines of a group make a draft: its sketch, and its clauses in the tables. Where a line is refused the tables are as they were.
-abbrev pub Taken : List ℕ → Network → Read Draft → SketchRead → List ℕ → List Float → List ℕ → List Float → Type 0
-Taken text m o (sketch.Good q) w f w' f' = (d : Draft) × (o ≡ good d) × Sketched text d q × HoldsMore text m (fitting m d.clauses) w' f'
-Taken text m o (sketch.Refused why) w f w' f' = (o ≡ bad why) × (w' ≡ w) × (f' ≡ f)
+abbrev pub Taken : List ℕ → Network → Read Draft → Result Sketch Reason → List ℕ → List Float → List ℕ → List Float → Type 0
+Taken text m o (Ok q) w f w' f' = (d : Draft) × (o ≡ good d) × Sketched text d q × HoldsMore text m (fitting m d.clauses) w' f'
+Taken text m o (Err why) w f w' f' = (o ≡ bad why) × (w' ≡ w) × (f' ≡ f)
 
 -- ---- the rule
 abbrev pub rule_in : List ℕ → Span → Sketch → ℕ → Rule

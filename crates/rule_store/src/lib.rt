@@ -18,12 +18,10 @@ ghost use Rattle.rule_lines.specs.Lines.{action_in};
 ghost use Rattle.rule_groups.specs.Sketches.{rank_in};
 ghost use Rattle.rule_store.specs.Group.{rule_in, PutClause, Put, HoldsMore, fitting, Taken, ClausesPut};
 
-use leaf_fields::{Field, Span};
-use read_headers::OwnLine;
-use rule_groups::{Judged, Sketch, SketchRead};
+use leaf_fields::{Span};
+use rule_groups::{Sketch};
 use rule_lines::LineRead;
 use scope::{Action, Condition, Counts, Value};
-use table_rows::Kept;
 
 // ---- clauses
 
@@ -36,7 +34,7 @@ fn put_clause(
     two: u64,
     three: u64,
     value: Value,
-    name: Field,
+    name: Option<Span>,
     words: &mut [u64],
     numbers: &mut [f64],
 )
@@ -105,7 +103,7 @@ fn put_action(text: &[u8], a: Action, n: usize, words: &mut [u64], numbers: &mut
         link,
         0,
         value,
-        Field::Taken(name),
+        Some(name),
         words,
         numbers,
     );
@@ -167,7 +165,7 @@ fn take_lines(
     s: Counts,
     words: &mut [u64],
     numbers: &mut [f64],
-) -> SketchRead
+) -> Result<Sketch, Reason>
     requires { Sound text.now s words.old numbers.old }
     ensures { (m : Network) → Holds text.now m s words.old numbers.old
         → Taken text.now m (lines_of m no_draft (group_fields text.now at first)) result words.old numbers.old words.new numbers.new }
@@ -178,8 +176,8 @@ fn take_lines(
     let mut p = first;
     loop {
         let own = read_headers::next_own(text, at, p);
-        let OwnLine::Line(line) = own else {
-            return SketchRead::Good(q);
+        let Some(line) = own else {
+            return Ok(q);
         };
         let read = rule_lines::read_line(
             read_headers::own_bytes(text, line),
@@ -193,13 +191,13 @@ fn take_lines(
         put_line(text, read, base + q.clauses, words, numbers);
         let seen = rule_groups::see(q, read);
         match seen {
-            SketchRead::Good(next) => {
+            Ok(next) => {
                 q = next;
                 p = line.end;
             }
-            SketchRead::Refused(why) => {
+            Err(why) => {
                 erase_clauses(base, q.clauses, words, numbers);
-                return SketchRead::Refused(why);
+                return Err(why);
             }
         }
     }
@@ -242,23 +240,23 @@ fn put_rule(text: &[u8], id: Span, q: Sketch, s: Counts, words: &mut [u64])
 }
 
 // The rule of a group whose clauses are there; where the group is refused, they are erased.
-fn store_group(text: &[u8], q: Sketch, s: Counts, words: &mut [u64], numbers: &mut [f64]) -> Kept
+fn store_group(text: &[u8], q: Sketch, s: Counts, words: &mut [u64], numbers: &mut [f64]) -> Result<Counts, Reason>
     requires { (m : Network) × (d : Draft) × (w : List ℕ) × (f : List Float) × ClausesPut text.now m d q s w f words.old numbers.old }
     ensures { (m : Network) (d : Draft) (w : List ℕ) (f : List Float) → ClausesPut text.now m d q s w f words.old numbers.old
         → After text.now (judged d m) result w f words.new numbers.new }
 {
     let answer = rule_groups::judge_group(text, q, words, s);
     match answer {
-        Judged::Good(id) => {
+        Ok(id) => {
             put_rule(text, id, q, s, words);
             let mut t = s;
             t.rules = s.rules + 1;
             t.clauses = s.clauses + q.clauses;
-            Kept::Stored(t)
+            Ok(t)
         }
-        Judged::Refused(why) => {
+        Err(why) => {
             erase_clauses(s.clauses, q.clauses, words, numbers);
-            Kept::Refused(why)
+            Err(why)
         }
     }
 }
@@ -271,14 +269,14 @@ pub fn close_group(
     s: Counts,
     words: &mut [u64],
     numbers: &mut [f64],
-) -> Kept
+) -> Result<Counts, Reason>
     requires { Sound text.now s words.old numbers.old }
     ensures { (m : Network) → Holds text.now m s words.old numbers.old
         → After text.now (group_step (group_fields text.now at first) m) result words.old numbers.old words.new numbers.new }
 {
     let read = take_lines(text, first, at, s, words, numbers);
     match read {
-        SketchRead::Good(q) => store_group(text, q, s, words, numbers),
-        SketchRead::Refused(why) => Kept::Refused(why),
+        Ok(q) => store_group(text, q, s, words, numbers),
+        Err(why) => Err(why),
     }
 }

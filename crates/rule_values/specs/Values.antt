@@ -1,5 +1,6 @@
 -- The code's answers as those of scope's Rules, and the part of `comparison_of` that the code has by itself. Assumes nothing.
-use Rattle.std.specs.Prelude.{ℕ, cond, ◌||◌, List}
+use Rattle.scope.specs.declared.Reason.{Reason}
+use Rattle.std.specs.Prelude.{ℕ, cond, ◌||◌, List, Err, None, Ok, Option, Result, Some}
 use Rattle.leaf_letters.specs.Words.{same}
 use Rattle.scope.specs.declared.Reason.TheVariants as reason
 use Rattle.scope.specs.declared.Comparison.{Comparison}
@@ -7,14 +8,10 @@ use Rattle.scope.specs.declared.Comparison.TheVariants.{Above, Below, AtLeast, A
 use Rattle.scope.specs.declared.Value.{Value}
 use Rattle.scope.specs.Spelling.{word_above, sign_above, word_below, sign_below, sign_at_least, sign_at_most}
 use Rattle.scope.specs.Values.{Read, good, bad}
-use Rattle.rule_values.specs.declared.ComparisonRead.{ComparisonRead}
-use Rattle.rule_values.specs.declared.ComparisonRead.TheVariants as comparison
-use Rattle.rule_values.specs.declared.ValueRead.{ValueRead}
-use Rattle.rule_values.specs.declared.ValueRead.TheVariants as value
 
-abbrev pub comparison_read : ComparisonRead → Read Comparison
-comparison_read (comparison.Known c) = good c
-comparison_read comparison.Unknown = bad reason.UnknownWord
+abbrev pub comparison_read : Option Comparison → Read Comparison
+comparison_read (Some c) = good c
+comparison_read None = bad reason.UnknownWord
 
 -- `comparison_of` is its tests for IS and NOT, and then this
 unfoldable pub order_of : List ℕ → Read Comparison
@@ -24,6 +21,6 @@ order_of w =
     (cond (same w sign_at_least) (good AtLeast)
     (cond (same w sign_at_most) (good AtMost) (bad reason.UnknownWord))))
 
-abbrev pub value_read : ValueRead → Read Value
-value_read (value.Read v) = good v
-value_read (value.Refused why) = bad why
+abbrev pub value_read : Result Value Reason → Read Value
+value_read (Ok v) = good v
+value_read (Err why) = bad why

@@ -9,17 +9,11 @@ ghost use Rattle.scope.specs.Values.{as_number, on_read, as_time};
 ghost use Rattle.scope.specs.Rules.{comparison_of, seconds_value, number_value, status_value, deed_of};
 ghost use Rattle.rule_values.specs.Values.{comparison_read, order_of, value_read};
 
-use leaf_clock::Time;
-use leaf_decimals::Number;
+use leaf_clock::TimeError;
+use leaf_decimals::NumberError;
 use scope::{Comparison, LinkStatus, Reason, Value};
 
 // ---- the comparison
-
-#[derive(Clone, Copy)]
-pub enum ComparisonRead {
-    Known(Comparison),
-    Unknown,
-}
 
 // Whether the word is one of the two.
 fn either<'a>(w: &'a [u8], a: &'a [u8], b: &'a [u8]) -> bool
@@ -32,91 +26,85 @@ fn either<'a>(w: &'a [u8], a: &'a [u8], b: &'a [u8]) -> bool
 }
 
 // The comparisons by size.
-fn order_comparison(w: &[u8]) -> ComparisonRead
+fn order_comparison(w: &[u8]) -> Option<Comparison>
     ensures { comparison_read result ≡ order_of w.now }
 {
     if either(w, b"ABOVE", b">") {
-        return ComparisonRead::Known(Comparison::Above);
+        return Some(Comparison::Above);
     }
     if either(w, b"BELOW", b"<") {
-        return ComparisonRead::Known(Comparison::Below);
+        return Some(Comparison::Below);
     }
     if leaf_letters::equal(w, b">=") {
-        return ComparisonRead::Known(Comparison::AtLeast);
+        return Some(Comparison::AtLeast);
     }
     if leaf_letters::equal(w, b"<=") {
-        return ComparisonRead::Known(Comparison::AtMost);
+        return Some(Comparison::AtMost);
     }
-    ComparisonRead::Unknown
+    None
 }
 
-pub fn read_comparison(w: &[u8]) -> ComparisonRead
+pub fn read_comparison(w: &[u8]) -> Option<Comparison>
     ensures { comparison_read result ≡ comparison_of w.now }
 {
     if either(w, b"IS", b"=") {
-        return ComparisonRead::Known(Comparison::Equal);
+        return Some(Comparison::Equal);
     }
     if either(w, b"NOT", b"<>") {
-        return ComparisonRead::Known(Comparison::NotEqual);
+        return Some(Comparison::NotEqual);
     }
     order_comparison(w)
 }
 
 // ---- the value
 
-#[derive(Clone, Copy)]
-pub enum ValueRead {
-    Read(Value),
-    Refused(Reason),
-}
-
 // Up to 2^53 every whole number is a double.
-fn seconds_value(n: u64) -> ValueRead
+fn seconds_value(n: u64) -> Result<Value, Reason>
     ensures { value_read result ≡ seconds_value n }
 {
     if n <= 9007199254740992 {
-        return ValueRead::Read(Value::Number(n as f64));
+        return Ok(Value::Number(n as f64));
     }
-    ValueRead::Refused(Reason::BeyondReach)
+    Err(Reason::BeyondReach)
 }
 
-pub fn time_value(time: &[u8], unit: &[u8]) -> ValueRead
+pub fn time_value(time: &[u8], unit: &[u8]) -> Result<Value, Reason>
     ensures { value_read result ≡ on_read (as_time (time_of time.now unit.now)) seconds_value }
 {
     let t = leaf_clock::read_time(time, unit);
     match t {
-        Time::Seconds(n) => seconds_value(n),
-        Time::Malformed => ValueRead::Refused(Reason::Malformed),
-        Time::Beyond => ValueRead::Refused(Reason::BeyondReach),
-        Time::UnknownUnit => ValueRead::Refused(Reason::UnknownWord),
+        Ok(n) => seconds_value(n),
+        Err(TimeError::Malformed) => Err(Reason::Malformed),
+        Err(TimeError::Beyond) => Err(Reason::BeyondReach),
+        Err(TimeError::UnknownUnit) => Err(Reason::UnknownWord),
     }
 }
 
-pub fn number_value(w: &[u8]) -> ValueRead
+pub fn number_value(w: &[u8]) -> Result<Value, Reason>
     ensures { value_read result ≡ number_value (as_number (number_of w.now) []) }
 {
     let n = leaf_decimals::read_number(w);
     match n {
-        Number::Value(x) => ValueRead::Read(Value::Number(x)),
-        Number::Malformed => ValueRead::Refused(Reason::Malformed),
-        Number::Beyond => ValueRead::Refused(Reason::BeyondReach),
+        Ok(x) => Ok(Value::Number(x)),
+        Err(NumberError::Malformed) => Err(Reason::Malformed),
+        Err(NumberError::Beyond) => Err(Reason::BeyondReach),
     }
 }
 
-fn status_value(w: &[u8]) -> ValueRead
+fn status_value(w: &[u8]) -> Result<Value, Reason>
     ensures { value_read result ≡ status_value w.now }
 {
     if leaf_letters::equal(w, b"OPEN") {
-        return ValueRead::Read(Value::Status(LinkStatus::Open));
+        return Ok(Value::Status(LinkStatus::Open));
     }
     if leaf_letters::equal(w, b"CLOSED") {
-        return ValueRead::Read(Value::Status(LinkStatus::Closed));
+        return Ok(Value::Status(LinkStatus::Closed));
     }
-    ValueRead::Refused(Reason::UnknownWord)
+    Err(Reason::UnknownWord)
 }
 
 // The value of an action, by its word STATUS or SETTING.
-pub fn deed<'a>(what: &'a [u8], value: &'a [u8]) -> ValueRead
+pub fn deed<'a>(what: &'a [u8], value: &'a [u8]) -> Result<Value, Reason>
     ensures { (at : ℕ) → value_read result ≡ deed_of what.now (record { at = at; letters = value.now }) }
 {
     if leaf_letters::equal(what, b"STATUS") {
@@ -125,5 +113,5 @@ pub fn deed<'a>(what: &'a [u8], value: &'a [u8]) -> ValueRead
     if leaf_letters::equal(what, b"SETTING") {
         return number_value(value);
     }
-    ValueRead::Refused(Reason::UnknownWord)
+    Err(Reason::UnknownWord)
 }

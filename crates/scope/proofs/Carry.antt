@@ -1,5 +1,7 @@
 -- Forgetting places commutes with the ways in which a reader's definition is put together: taking a field, reading on, looking a name up, choosing; and with the lists of a
 -- network. Assumes nothing.
+use Rattle.leaf_decimals.specs.declared.NumberError.{NumberError}
+use Rattle.std.specs.Prelude.{Err, None, Ok, Option, Result, Some}
 use Prim.Native.Nat.{ℕ, zero, suc}
 use mathlib.Core.Path.{◌≡◌, refl, ap, ap₂, sym, ◌∙◌, subst}
 use mathlib.Core.Bool.{Bool, true, false, cond}
@@ -7,14 +9,11 @@ use mathlib.Core.List.{List, [], ◌∷◌, map}
 use lib.ListN.{set}
 use lib.Ieee.{Float}
 use Rattle.leaf_decimals.specs.Numbers.{number_of}
-use Rattle.leaf_decimals.specs.declared.Number as N
-use Rattle.leaf_decimals.specs.declared.Number.TheVariants as number
+use Rattle.leaf_decimals.specs.declared.NumberError.TheVariants as number
 use Rattle.leaf_fields.specs.Fields.{Name, fields_of}
 use Rattle.leaf_letters.specs.Words.{same}
 use Rattle.leaf_fields.proofs.FieldLaws.{letters_in, letters-moved}
 use Rattle.scope.specs.declared.Reason.{Reason}
-use Rattle.scope.specs.declared.Found.{Found}
-use Rattle.scope.specs.declared.Found.TheVariants.{At, Nowhere}
 use Rattle.scope.specs.Records.{lookup_from, lookup}
 use Rattle.scope.specs.Values.{Read, good, bad, on_read, Took, took, refused, on_took, on_found, name_from, optional_from, as_number, number_from, number_or}
 use Rattle.scope.specs.Values.{as_swallowed, swallowed_from, flag_from, PairFields, pair_of}
@@ -51,10 +50,10 @@ module _ {A B C D : Type 0} {f : A → B} {g : C → D} where
   on_read-law k' bads h = bads
 
 module _ {C D : Type 0} {g : C → D} where
-  pub on-found : (t : Found) {t' : Found} {k : ℕ → Read C} {k' : ℕ → Read D} {b : Read C} {b' : Read D} → t ≡ t'
+  pub on-found : (t : Option ℕ) {t' : Option ℕ} {k : ℕ → Read C} {k' : ℕ → Read D} {b : Read C} {b' : Read D} → t ≡ t'
       → ((i : ℕ) → ReadLike g (k i) (k' i)) → ReadLike g b b' → ReadLike g (on_found t k b) (on_found t' k' b')
-  on-found (At i) {k = k} {k' = k'} {b' = b'} e h d = subst (λ x. ReadLike g (k i) (on_found x k' b')) e (h i)
-  on-found Nowhere {k' = k'} {b = b} {b' = b'} e h d = subst (λ x. ReadLike g b (on_found x k' b')) e d
+  on-found (Some i) {k = k} {k' = k'} {b' = b'} e h d = subst (λ x. ReadLike g (k i) (on_found x k' b')) e (h i)
+  on-found None {k' = k'} {b = b} {b' = b'} e h d = subst (λ x. ReadLike g b (on_found x k' b')) e d
 
   pub on-cond : (t : Bool) {t' : Bool} {x y : Read C} {x' y' : Read D} → t ≡ t' → ReadLike g x x' → ReadLike g y y' → ReadLike g (cond t x y) (cond t' x' y')
   on-cond true {x = x} {x' = x'} {y' = y'} e p q = subst (λ b. ReadLike g x (cond b x' y')) e p
@@ -77,15 +76,15 @@ pub optional : (fs : List Name) → TookLike forget_maybe (optional_from fs) (op
 optional [] = tooks
 optional (f ∷ fs) = tooks
 
-pub as-number : (n : N.Number) (fs : List Name) → TookLike itself (as_number n fs) (as_number n (map forget fs))
-as-number (number.Value x) fs = tooks
-as-number number.Malformed fs = refuseds
-as-number number.Beyond fs = refuseds
+pub as-number : (n : Result Float NumberError) (fs : List Name) → TookLike itself (as_number n fs) (as_number n (map forget fs))
+as-number (Ok x) fs = tooks
+as-number (Err number.Malformed) fs = refuseds
+as-number (Err number.Beyond) fs = refuseds
 
-pub as-swallowed : (d : Float) (n : N.Number) (fs : List Name) → TookLike itself (as_swallowed d n fs) (as_swallowed d n (map forget fs))
-as-swallowed d (number.Value x) fs = tooks
-as-swallowed d number.Malformed fs = tooks
-as-swallowed d number.Beyond fs = refuseds
+pub as-swallowed : (d : Float) (n : Result Float NumberError) (fs : List Name) → TookLike itself (as_swallowed d n fs) (as_swallowed d n (map forget fs))
+as-swallowed d (Ok x) fs = tooks
+as-swallowed d (Err number.Malformed) fs = tooks
+as-swallowed d (Err number.Beyond) fs = refuseds
 
 pub number-from : (fs : List Name) → TookLike itself (number_from fs) (number_from (map forget fs))
 number-from [] = refuseds
@@ -117,7 +116,7 @@ pair-of fs =
 pub lookup-forget : (i : ℕ) (ns : List Name) (w : List ℕ) → lookup_from i ns w ≡ lookup_from i (map forget ns) w
 unfolding lookup_from
 lookup-forget i [] w = refl
-lookup-forget i (n ∷ ns) w = ap (cond (same n.letters w) (At i)) (lookup-forget (suc i) ns w)
+lookup-forget i (n ∷ ns) w = ap (cond (same n.letters w) (Some i)) (lookup-forget (suc i) ns w)
 
 -- ---- lists
 module _ {A B C D : Type 0} (f : B → D) (g : A → B) (f' : A → C) (g' : C → D) (h : (a : A) → f (g a) ≡ g' (f' a)) where

@@ -1,4 +1,5 @@
 -- What a group that is taken stores: its conditions and its actions, line by line. Assumes nothing.
+use Rattle.std.specs.Prelude.{None, Some}
 use Prim.Native.Nat.{ℕ, ◌+◌}
 use native.Mathlib.Omega.{arith}
 use mathlib.Core.Path.{◌≡◌, refl, ap, ap₂, sym, ◌∙◌, subst}
@@ -11,9 +12,7 @@ use lib.Dec.{ltb, leb}
 use Rattle.leaf_fields.specs.Fields.{Name, rest}
 use Rattle.leaf_letters.specs.Words.{same}
 use Rattle.leaf_letters.proofs.WordLaws.{same-equal}
-use Rattle.scope.specs.declared.Found.{Found}
 use Rattle.scope.specs.declared.Reason.TheVariants.{Used, NoCondition, NoAction, NoRoom}
-use Rattle.scope.specs.declared.Found.TheVariants.{At, Nowhere}
 use Rattle.scope.specs.declared.Operator.{Operator}
 use Rattle.scope.specs.declared.Operator.TheVariants.{And, Or}
 use Rattle.scope.specs.Spelling.{word_rule, word_if, word_and, word_or, word_then, word_else, word_priority, word_is}
@@ -329,10 +328,10 @@ nothing-drafted m = record { acting = refl; otherwise = refl; clauses = refl; co
 
 -- ---- a group that is judged good is stored
 module _ (d : Draft) (m m' : Network) where
-  if-room : (id : Name) (f : Found) (b : Bool) → on_found f (λ i. bad Used) (cond b (good (with_rule id d m)) (bad NoRoom)) ≡ good m' → m' ≡ with_rule id d m
-  if-room id (At i) b k = absurd (let z : ◌≡◌ {A = ℕ} 0 1 = cc in omega arith)
-  if-room id Nowhere true k = cc
-  if-room id Nowhere false k = absurd (let z : ◌≡◌ {A = ℕ} 0 1 = cc in omega arith)
+  if-room : (id : Name) (f : Option ℕ) (b : Bool) → on_found f (λ i. bad Used) (cond b (good (with_rule id d m)) (bad NoRoom)) ≡ good m' → m' ≡ with_rule id d m
+  if-room id (Some i) b k = absurd (let z : ◌≡◌ {A = ℕ} 0 1 = cc in omega arith)
+  if-room id None true k = cc
+  if-room id None false k = absurd (let z : ◌≡◌ {A = ℕ} 0 1 = cc in omega arith)
 
   on-id : (o : Option Name) → d.id ≡ o → named o d m ≡ good m' → (id : Name) × (d.id ≡ some id) × (m' ≡ with_rule id d m)
   unfolding add_rule

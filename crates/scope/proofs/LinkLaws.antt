@@ -1,4 +1,6 @@
 -- Pipes, pumps and valves are read alike where places are forgotten. Assumes nothing.
+use Rattle.leaf_decimals.specs.declared.NumberError.{NumberError}
+use Rattle.std.specs.Prelude.{Err, Ok, Result}
 use Prim.Native.Nat.{ℕ}
 use mathlib.Core.Path.{◌≡◌, refl, ap, sym}
 use mathlib.Core.List.{List, [], ◌∷◌, map, map-append}
@@ -7,8 +9,7 @@ use lib.ListN.{length, length-map}
 use lib.Dec.{ltb}
 use lib.Ieee.{Float}
 use Rattle.leaf_decimals.specs.Numbers.{number_of}
-use Rattle.leaf_decimals.specs.declared.Number as N
-use Rattle.leaf_decimals.specs.declared.Number.TheVariants as number
+use Rattle.leaf_decimals.specs.declared.NumberError.TheVariants as number
 use Rattle.leaf_fields.specs.Fields.{Name}
 use Rattle.leaf_letters.specs.Words.{same}
 use Rattle.scope.specs.declared.ValveType.{ValveType}
@@ -76,15 +77,15 @@ pipe-step fs m = on_read-law _ (pipe-of fs) (λ l. store-link l m)
 abbrev forget_pump : Pump → Pump
 forget_pump p = record { speed = p.speed; head = forget_maybe p.head; power = p.power }
 
-with-speed : (p : Pump) (d : Float) (n : N.Number) → ReadLike forget_pump (with_speed p (as_swallowed d n [])) (with_speed (forget_pump p) (as_swallowed d n []))
-with-speed p d (number.Value x) = goods refl
-with-speed p d number.Malformed = goods refl
-with-speed p d number.Beyond = bads
+with-speed : (p : Pump) (d : Float) (n : Result Float NumberError) → ReadLike forget_pump (with_speed p (as_swallowed d n [])) (with_speed (forget_pump p) (as_swallowed d n []))
+with-speed p d (Ok x) = goods refl
+with-speed p d (Err number.Malformed) = goods refl
+with-speed p d (Err number.Beyond) = bads
 
-with-power : (p : Pump) (d : Float) (n : N.Number) → ReadLike forget_pump (with_power p (as_swallowed d n [])) (with_power (forget_pump p) (as_swallowed d n []))
-with-power p d (number.Value x) = goods refl
-with-power p d number.Malformed = goods refl
-with-power p d number.Beyond = bads
+with-power : (p : Pump) (d : Float) (n : Result Float NumberError) → ReadLike forget_pump (with_power p (as_swallowed d n [])) (with_power (forget_pump p) (as_swallowed d n []))
+with-power p d (Ok x) = goods refl
+with-power p d (Err number.Malformed) = goods refl
+with-power p d (Err number.Beyond) = bads
 
 with_pair-law : (p : Pump) (w v : Name) → ReadLike forget_pump (with_pair p w v) (with_pair (forget_pump p) (forget w) (forget v))
 unfolding with_pair

@@ -1,4 +1,5 @@
 -- Curves, patterns and demands are read alike where places are forgotten, and the patterns' places are worked out alike. Assumes nothing.
+use Rattle.std.specs.Prelude.{Some}
 use Prim.Native.Nat.{ℕ, suc}
 use mathlib.Core.Path.{◌≡◌, refl, ap, ap₂, sym, subst}
 use mathlib.Core.Bool.{cond, ◌&&◌}
@@ -10,7 +11,6 @@ use lib.Ieee.{Float}
 use Rattle.leaf_decimals.specs.Numbers.{number_of}
 use Rattle.leaf_fields.specs.Fields.{Name}
 use Rattle.scope.specs.declared.Reason.TheVariants.{WrongKind}
-use Rattle.scope.specs.declared.Found.TheVariants.{At}
 use Rattle.scope.specs.Sections.{room_curves, room_points, room_patterns, room_demands}
 use Rattle.scope.specs.Records.{Network, Node, NodeKind, junction, reservoir, tank, Demand, no_node, with_nodes, with_curves, with_patterns, with_demands}
 use Rattle.scope.specs.Values.{bad}
@@ -71,7 +71,7 @@ pattern-step fs m = on_read-law _ (pattern-of fs) (λ p. add-pattern p.id p.valu
 own-from : (k i : ℕ) (ds : List Demand) → own_from k i ds ≡ own_from k i (map forget_demand ds)
 unfolding own_from
 own-from k i [] = refl
-own-from k i (d ∷ ds) = ap (cond (eqb d.node i && d.own) (At k)) (own-from (suc k) i ds)
+own-from k i (d ∷ ds) = ap (cond (eqb d.node i && d.own) (Some k)) (own-from (suc k) i ds)
 
 add-demand : (i : ℕ) (x : Float) (p : Option Name) (m : Network) → ReadLike bare (add_demand i x p m) (add_demand i x (forget_maybe p) (bare m))
 unfolding add_demand

@@ -1,4 +1,6 @@
 -- Every network that a reading gives has its names written in the text. Assumes nothing.
+use Rattle.leaf_decimals.specs.declared.NumberError.{NumberError}
+use Rattle.std.specs.Prelude.{Err, None, Ok, Result, Some}
 use Prim.{Unit, tt}
 use Prim.Native.Nat.{ℕ, zero, suc, ◌+◌, ◌-◌, ◌≤◌}
 use native.Mathlib.Omega.{arith}
@@ -11,8 +13,7 @@ use lib.Seq.{take-take}
 use lib.Dec.{ltb, leb}
 use lib.Ieee.{Float}
 use Rattle.leaf_decimals.specs.Numbers.{number_of}
-use Rattle.leaf_decimals.specs.declared.Number as N
-use Rattle.leaf_decimals.specs.declared.Number.TheVariants as number
+use Rattle.leaf_decimals.specs.declared.NumberError.TheVariants as number
 use Rattle.leaf_fields.specs.Fields.{Name, fields_of}
 use Rattle.leaf_scans.specs.Lines.{cut_of}
 use Rattle.leaf_letters.specs.Words.{same}
@@ -20,8 +21,6 @@ use Rattle.leaf_fields.proofs.FieldLaws.{StandsFrom, Ordered, ordered, drop-take
 use Rattle.leaf_scans.proofs.LineLaws.{cut-prefix}
 use Rattle.scope_lines.specs.Text.{Line, Each, nothing, each}
 use Rattle.scope.specs.declared.Reason.{Reason}
-use Rattle.scope.specs.declared.Found.{Found}
-use Rattle.scope.specs.declared.Found.TheVariants.{At, Nowhere}
 use Rattle.scope.specs.declared.Target.{Target}
 use Rattle.scope.specs.declared.Operator.{Operator}
 use Rattle.scope.specs.declared.Operator.TheVariants.{And, Or}
@@ -65,9 +64,9 @@ module _ {B : Type 0} {P : B → Type 0} where
   from-read (goodly {a} q) h = h a q
   from-read badly h = badly
 
-  pub from_found : (t : Found) {k : ℕ → Read B} {b : Read B} → ((i : ℕ) → Fine P (k i)) → Fine P b → Fine P (on_found t k b)
-  from_found (At i) h d = h i
-  from_found Nowhere h d = d
+  pub from_found : (t : Option ℕ) {k : ℕ → Read B} {b : Read B} → ((i : ℕ) → Fine P (k i)) → Fine P b → Fine P (on_found t k b)
+  from_found (Some i) h d = h i
+  from_found None h d = d
 
   pub from-if : (t : Bool) {x y : Read B} → Fine P x → Fine P y → Fine P (cond t x y)
   from-if true p q = p
@@ -127,15 +126,15 @@ module _ (text : List ℕ) where
   optional nothing = fresh tt nothing
   optional (each p ps) = fresh p ps
 
-  as-number : (n : N.Number) {fs : List Name} → All fs → Fresh Any (as_number n fs)
-  as-number (number.Value x) s = fresh tt s
-  as-number number.Malformed s = stale
-  as-number number.Beyond s = stale
+  as-number : (n : Result Float NumberError) {fs : List Name} → All fs → Fresh Any (as_number n fs)
+  as-number (Ok x) s = fresh tt s
+  as-number (Err number.Malformed) s = stale
+  as-number (Err number.Beyond) s = stale
 
-  as-swallowed : (d : Float) (n : N.Number) {fs : List Name} → All fs → Fresh Any (as_swallowed d n fs)
-  as-swallowed d (number.Value x) s = fresh tt s
-  as-swallowed d number.Malformed s = fresh tt s
-  as-swallowed d number.Beyond s = stale
+  as-swallowed : (d : Float) (n : Result Float NumberError) {fs : List Name} → All fs → Fresh Any (as_swallowed d n fs)
+  as-swallowed d (Ok x) s = fresh tt s
+  as-swallowed d (Err number.Malformed) s = fresh tt s
+  as-swallowed d (Err number.Beyond) s = stale
 
   number-from : {fs : List Name} → All fs → Fresh Any (number_from fs)
   number-from nothing = stale
@@ -282,15 +281,15 @@ module _ (text : List ℕ) where
   abbrev PumpFine : Pump → Type 0
   PumpFine p = SitsOr text p.head
 
-  with-speed : (p : Pump) (d : Float) (n : N.Number) → PumpFine p → Fine PumpFine (with_speed p (as_swallowed d n []))
-  with-speed p d (number.Value x) h = goodly h
-  with-speed p d number.Malformed h = goodly h
-  with-speed p d number.Beyond h = badly
+  with-speed : (p : Pump) (d : Float) (n : Result Float NumberError) → PumpFine p → Fine PumpFine (with_speed p (as_swallowed d n []))
+  with-speed p d (Ok x) h = goodly h
+  with-speed p d (Err number.Malformed) h = goodly h
+  with-speed p d (Err number.Beyond) h = badly
 
-  with-power : (p : Pump) (d : Float) (n : N.Number) → PumpFine p → Fine PumpFine (with_power p (as_swallowed d n []))
-  with-power p d (number.Value x) h = goodly h
-  with-power p d number.Malformed h = goodly h
-  with-power p d number.Beyond h = badly
+  with-power : (p : Pump) (d : Float) (n : Result Float NumberError) → PumpFine p → Fine PumpFine (with_power p (as_swallowed d n []))
+  with-power p d (Ok x) h = goodly h
+  with-power p d (Err number.Malformed) h = goodly h
+  with-power p d (Err number.Beyond) h = badly
 
   with_pair-law : (p : Pump) (w v : Name) → PumpFine p → Sits text v → Fine PumpFine (with_pair p w v)
   unfolding with_pair

@@ -1,7 +1,6 @@
 -- Demand 3 compares names by their letters: the same names, records and network with every name's place in the text forgotten, and nothing else. And the reader of document 01
 -- over lines that have no place. Assumes nothing.
-use Rattle.std.specs.Prelude.{ℕ, List, map}
-use Rattle.std.proofs.Math.Option.{Option, none, some}
+use Rattle.std.specs.Prelude.{ℕ, List, map, None, Option, Some}
 use Rattle.leaf_fields.specs.Fields.{Name, fields_of}
 use Rattle.leaf_scans.specs.Lines.{cut_of}
 use Rattle.scope_lines.specs.Reader as L
@@ -16,8 +15,8 @@ abbrev pub forget : Name → Name
 forget n = record { at = 0; letters = n.letters }
 
 abbrev pub forget_maybe : Option Name → Option Name
-forget_maybe none = none
-forget_maybe (some n) = some (forget n)
+forget_maybe None = None
+forget_maybe (Some n) = Some (forget n)
 
 abbrev pub forget_node_kind : NodeKind → NodeKind
 forget_node_kind (junction j) = junction j

@@ -1,7 +1,6 @@
 -- Document 01 on the lines of a rule group, said of the group as a whole: which of its lines are conditions and which are actions, and what a group that is taken stores. The words of
 -- the theorems `group-stores` and `taken-stands`; a line is given by its fields. Assumes nothing.
-use Rattle.std.specs.Prelude.{ℕ, ◌<◌, ◌≡◌, Bool, false, cond, not, ◌&&◌, ◌||◌, List, [], ◌∷◌, ◌++◌, map, length, take, drop, get_or}
-use Rattle.std.proofs.Math.Option.{Option, none, some}
+use Rattle.std.specs.Prelude.{ℕ, ◌<◌, ◌≡◌, Bool, false, cond, not, ◌&&◌, ◌||◌, List, [], ◌∷◌, ◌++◌, map, length, take, drop, get_or, None, Option, Some}
 use Rattle.leaf_fields.specs.Fields.{Name, rest}
 use Rattle.leaf_letters.specs.Words.{same}
 use Rattle.scope.specs.declared.Operator.TheVariants.{And, Or}
@@ -10,7 +9,7 @@ use Rattle.scope.specs.Records.{Network, Rule, Clause, condition, action, Condit
 use Rattle.scope.specs.Values.{Read, good, on_read, on_took, name_from, count_from}
 use Rattle.scope.specs.Rules.{condition_of, action_of}
 
--- a line with the first word w; whether there is one among some lines; the last of them that is one
+-- a line with the first word w; whether there is one among Some lines; the last of them that is one
 abbrev pub opens_with : List ℕ → List Name → Bool
 opens_with w [] = false
 opens_with w (f ∷ fs) = same f.letters w
@@ -21,10 +20,10 @@ among w (l ∷ ls) = opens_with w l || among w ls
 
 unfoldable pub last_from : Option (List Name) → List ℕ → List (List Name) → Option (List Name)
 last_from o w [] = o
-last_from o w (l ∷ ls) = last_from (cond (opens_with w l) (some l) o) w ls
+last_from o w (l ∷ ls) = last_from (cond (opens_with w l) (Some l) o) w ls
 
 abbrev pub last_with : List ℕ → List (List Name) → Option (List Name)
-last_with w ls = last_from none w ls
+last_with w ls = last_from None w ls
 
 -- ---- "AND is a condition until a THEN has been read, else an action": by the lines before it, is a line a condition; is it an action?
 abbrev pub is_condition_line : List (List Name) → List Name → Bool
@@ -88,14 +87,14 @@ others_from ls = over_lines other_at [] ls
 
 -- the id is that of the last RULE line; "The last PRIORITY counts."
 abbrev pub id_from : Option (List Name) → Read (Option Name)
-id_from none = good none
-id_from (some l) = on_took (name_from (rest l)) (λ n fs. good (some n))
+id_from None = good None
+id_from (Some l) = on_took (name_from (rest l)) (λ n fs. good (Some n))
 
 abbrev pub priority_from : Option (List Name) → Read (Option ℕ)
-priority_from none = good none
-priority_from (some l) = on_read (count_from (rest l)) (λ n. good (some n))
+priority_from None = good None
+priority_from (Some l) = on_read (count_from (rest l)) (λ n. good (Some n))
 
--- ---- the conditions, and the actions, among some clauses
+-- ---- the conditions, and the actions, among Some clauses
 abbrev pub conditions_in : List Clause → List Condition
 conditions_in [] = []
 conditions_in (condition c ∷ cs) = c ∷ conditions_in cs
@@ -106,7 +105,7 @@ actions_in [] = []
 actions_in (condition c ∷ cs) = actions_in cs
 actions_in (action a ∷ cs) = a ∷ actions_in cs
 
--- ---- a rule and its clauses `new` are what the lines ls say, links being looked up in m: each line that says a clause was good, none is lost, added or moved, and there are
+-- ---- a rule and its clauses `new` are what the lines ls say, links being looked up in m: each line that says a clause was good, None is lost, added or moved, and there are
 -- no other lines but RULE and PRIORITY
 pub record Says (ls : List (List Name)) (m : Network) (rule : Rule) (new : List Clause) : Type 0 where
   pub clauses : map (λ (c : Clause). good c) new ≡ clauses_from m ls
@@ -115,7 +114,7 @@ pub record Says (ls : List (List Name)) (m : Network) (rule : Rule) (new : List 
   pub elses : map (λ (a : Action). a.otherwise) (actions_in new) ≡ elses_from ls
   pub others : others_from ls ≡ []
   pub count : rule.count ≡ length new
-  pub id : id_from (last_with word_rule ls) ≡ good (some rule.id)
+  pub id : id_from (last_with word_rule ls) ≡ good (Some rule.id)
   pub priority : priority_from (last_with word_priority ls) ≡ good rule.priority
 
 -- the group makes m' of m: one rule more, and its clauses behind the others, which it spans; all else is as it was

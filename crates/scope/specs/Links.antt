@@ -1,6 +1,5 @@
 -- Document 01, "Records by section": pipes, pumps and valves. Assumes nothing.
-use Rattle.std.specs.Prelude.{ℕ, false, cond, List, [], ◌∷◌, ◌++◌, length, pos, ltb, Float}
-use Rattle.std.proofs.Math.Option.{Option, none, some}
+use Rattle.std.specs.Prelude.{ℕ, false, cond, List, [], ◌∷◌, ◌++◌, length, pos, ltb, Float, None, Option, Some}
 use Rattle.std.specs.Float.{fin}
 use Rattle.leaf_decimals.specs.Numbers.{number_of}
 use Rattle.leaf_fields.specs.Fields.{Name}
@@ -79,7 +78,7 @@ abbrev pub one_f : Float
 one_f = fin false 1 (pos 0)
 
 abbrev pub no_pump : Pump
-no_pump = record { speed = one_f; head = none; power = zero_f }
+no_pump = record { speed = one_f; head = None; power = zero_f }
 
 abbrev pub with_speed : Pump → Took Float → Read Pump
 with_speed p (took x fs) = good (record { speed = x; head = p.head; power = p.power })
@@ -90,7 +89,7 @@ with_power p (took x fs) = good (record { speed = p.speed; head = p.head; power 
 with_power p (refused r) = bad r
 
 abbrev pub with_head : Pump → Name → Read Pump
-with_head p v = good (record { speed = p.speed; head = some v; power = p.power })
+with_head p v = good (record { speed = p.speed; head = Some v; power = p.power })
 
 unfoldable pub with_pair : Pump → Name → Name → Read Pump
 with_pair p w v =
@@ -131,7 +130,7 @@ pub record Setting : Type 0 where
   pub curve : Option Name
 
 abbrev pub setting_took : Took Float → Took Setting
-setting_took (took x fs) = took (record { value = x; curve = none }) fs
+setting_took (took x fs) = took (record { value = x; curve = None }) fs
 setting_took (refused r) = refused r
 
 abbrev pub curve_took : Took (Option Name) → Took Setting
@@ -149,7 +148,7 @@ setting_from Pcv fs = setting_took (swallowed_from zero_f fs)
 
 abbrev pub overriding : List Name → Option Name → Option Name
 overriding [] c = c
-overriding (f ∷ fs) c = some f
+overriding (f ∷ fs) c = Some f
 
 unfoldable pub valve_of : List Name → Read LinkFields
 valve_of fs =

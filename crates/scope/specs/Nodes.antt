@@ -1,6 +1,5 @@
 -- Document 01, "Records by section": junctions, reservoirs and tanks; emitters and coordinates. Assumes nothing.
-use Rattle.std.specs.Prelude.{ℕ, ◌+◌, Bool, true, false, cond, ◌&&◌, List, [], ◌∷◌, ◌++◌, length, set, get_or, ltb, Float}
-use Rattle.std.proofs.Math.Option.{Option, none, some}
+use Rattle.std.specs.Prelude.{ℕ, ◌+◌, Bool, true, false, cond, ◌&&◌, List, [], ◌∷◌, ◌++◌, length, set, get_or, ltb, Float, None, Option, Some}
 use Rattle.leaf_fields.specs.Fields.{Name, rest}
 use Rattle.leaf_letters.specs.Words.{same, spelled}
 use Rattle.scope.specs.declared.Reason.TheVariants.{Used, NotFound, WrongKind, NoRoom}
@@ -28,10 +27,10 @@ junction_of fs =
     good (record { id = id; elevation = elevation; demand = demand; pattern = pattern; disabled = disabled }))))))
 
 abbrev pub junction_node : JunctionFields → Node
-junction_node j = record { id = j.id; kind = junction (record { elevation = j.elevation; emitter = zero_f; disabled = j.disabled }); place = none }
+junction_node j = record { id = j.id; kind = junction (record { elevation = j.elevation; emitter = zero_f; disabled = j.disabled }); place = None }
 
 abbrev pub junction_demand : ℕ → JunctionFields → Demand
-junction_demand n j = record { node = n; own = true; base = j.demand; pattern = j.pattern; index = none }
+junction_demand n j = record { node = n; own = true; base = j.demand; pattern = j.pattern; index = None }
 
 abbrev pub with_junction : JunctionFields → Network → Network
 with_junction j m = with_demands (m.demands ++ (junction_demand (length m.nodes) j ∷ [])) (with_nodes (m.nodes ++ (junction_node j ∷ [])) m)
@@ -53,7 +52,7 @@ add_node n m =
     (cond (ltb (length m.nodes) room_nodes) (good (with_nodes (m.nodes ++ (n ∷ [])) m)) (bad NoRoom))
 
 abbrev pub reservoir_node : Name → Float → Option Name → Node
-reservoir_node id elevation pattern = record { id = id; kind = reservoir (record { elevation = elevation; pattern = pattern; index = none }); place = none }
+reservoir_node id elevation pattern = record { id = id; kind = reservoir (record { elevation = elevation; pattern = pattern; index = None }); place = None }
 
 -- "Reservoir: id, elevation, optional pattern."
 unfoldable pub reservoir_of : List Name → Read Node
@@ -66,17 +65,17 @@ reservoir_of fs =
 unfoldable pub reservoir_step : List Name → Network → Read Network
 reservoir_step fs m = on_read (reservoir_of fs) (λ n. add_node n m)
 
--- "then a curve (* is none) and overflow (YES in any case)"
+-- "then a curve (* is None) and overflow (YES in any case)"
 abbrev pub curve_in : List Name → Option Name
-curve_in [] = none
-curve_in (f ∷ fs) = cond (same f.letters sign_star) none (some f)
+curve_in [] = None
+curve_in (f ∷ fs) = cond (same f.letters sign_star) None (Some f)
 
 abbrev pub overflow_in : List Name → Bool
 overflow_in [] = false
 overflow_in (f ∷ fs) = spelled f.letters word_yes
 
 abbrev pub tank_node : Name → Tank → Node
-tank_node id t = record { id = id; kind = tank t; place = none }
+tank_node id t = record { id = id; kind = tank t; place = None }
 
 -- "A tank holds six numbers: elevation, initial level, minimum level, maximum level, diameter, minimum volume (0 if absent)": those after the elevation
 unfoldable pub levels_of : Name → Float → List Name → Read Node
@@ -99,7 +98,7 @@ levels_of id elevation fs =
 
 -- "Id and elevation alone make a reservoir."
 abbrev pub reservoir_or : Name → Float → List Name → Read Node
-reservoir_or id elevation [] = good (reservoir_node id elevation none)
+reservoir_or id elevation [] = good (reservoir_node id elevation None)
 reservoir_or id elevation (f ∷ fs) = levels_of id elevation (f ∷ fs)
 
 unfoldable pub tank_of : List Name → Read Node
@@ -145,7 +144,7 @@ emitter_step fs m = on_read (emitter_of fs) (λ e. set_emitter e.id e.coefficien
 
 -- ---- "Coordinates: any node."
 abbrev pub standing : Node → Place → Node
-standing n p = record { id = n.id; kind = n.kind; place = some p }
+standing n p = record { id = n.id; kind = n.kind; place = Some p }
 
 unfoldable pub set_place : Name → Place → Network → Read Network
 set_place id p m =

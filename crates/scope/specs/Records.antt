@@ -1,12 +1,9 @@
 -- Document 01, "Records by section": what is kept of a network. Each list is in file order. A point names its curve, a multiplier its pattern, a demand its junction
 -- and an action its link by their places in these lists. Assumes nothing.
-use Rattle.std.specs.Prelude.{ℕ, suc, Bool, false, cond, List, [], ◌∷◌, map, length, replicate, pos, Float}
-use Rattle.std.proofs.Math.Option.{Option, none}
+use Rattle.std.specs.Prelude.{ℕ, suc, Bool, false, cond, List, [], ◌∷◌, map, length, replicate, pos, Float, None, Option, Some}
 use Rattle.std.specs.Float.{fin}
 use Rattle.leaf_fields.specs.Fields.{Name}
 use Rattle.leaf_letters.specs.Words.{same}
-use Rattle.scope.specs.declared.Found.{Found}
-use Rattle.scope.specs.declared.Found.TheVariants.{At, Nowhere}
 use Rattle.scope.specs.declared.Kind.{Kind}
 use Rattle.scope.specs.declared.Kind.TheVariants.{Nodes, Links, Curves, Patterns, Rules}
 use Rattle.scope.specs.declared.PipeStatus.{PipeStatus}
@@ -146,7 +143,7 @@ pub record Network : Type 0 where
   pub clauses : List Clause
 
 abbrev pub no_network : Network
-no_network = record { nodes = []; links = []; curves = []; points = []; patterns = []; multipliers = []; demands = []; times = replicate 6 none; rules = []; clauses = [] }
+no_network = record { nodes = []; links = []; curves = []; points = []; patterns = []; multipliers = []; demands = []; times = replicate 6 None; rules = []; clauses = [] }
 
 abbrev pub counts_of : Network → Counts
 counts_of m =
@@ -163,11 +160,11 @@ counts_of m =
     }
 
 -- ---- looking a name up: the first of the names that has these letters; the names start at number i
-unfoldable pub lookup_from : ℕ → List Name → List ℕ → Found
-lookup_from i [] w = Nowhere
-lookup_from i (n ∷ ns) w = cond (same n.letters w) (At i) (lookup_from (suc i) ns w)
+unfoldable pub lookup_from : ℕ → List Name → List ℕ → Option ℕ
+lookup_from i [] w = None
+lookup_from i (n ∷ ns) w = cond (same n.letters w) (Some i) (lookup_from (suc i) ns w)
 
-abbrev pub lookup : List Name → List ℕ → Found
+abbrev pub lookup : List Name → List ℕ → Option ℕ
 lookup ns w = lookup_from 0 ns w
 
 abbrev pub node_ids : Network → List Name
@@ -202,7 +199,7 @@ abbrev pub no_junction : Junction
 no_junction = record { elevation = zero_f; emitter = zero_f; disabled = false }
 
 abbrev pub no_node : Node
-no_node = record { id = no_name; kind = junction no_junction; place = none }
+no_node = record { id = no_name; kind = junction no_junction; place = None }
 
 abbrev pub no_pipe : Pipe
 no_pipe = record { long = zero_f; diameter = zero_f; roughness = zero_f; minor = zero_f; status = Open }
@@ -217,10 +214,10 @@ abbrev pub no_multiplier : Multiplier
 no_multiplier = record { pattern = 0; value = zero_f }
 
 abbrev pub no_demand : Demand
-no_demand = record { node = 0; own = false; base = zero_f; pattern = none; index = none }
+no_demand = record { node = 0; own = false; base = zero_f; pattern = None; index = None }
 
 abbrev pub no_rule : Rule
-no_rule = record { id = no_name; priority = none; first = 0; count = 0 }
+no_rule = record { id = no_name; priority = None; first = 0; count = 0 }
 
 abbrev pub no_clause : Clause
 no_clause = action (record { link = 0; name = no_name; value = Number zero_f; otherwise = false })

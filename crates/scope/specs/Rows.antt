@@ -1,8 +1,7 @@
 -- Rows that are computed: the sample of document 01 with its whole tally, and small texts that a reader may get wrong, each with what strict reading answers. Assumes nothing.
-use Rattle.std.specs.Prelude.{ℕ, suc, ◌+◌, ◌≡◌, refl, Bool, true, false, cond, List, [], ◌∷◌, map, length, replicate, eqb, pos, Float}
+use Rattle.std.specs.Prelude.{ℕ, suc, ◌+◌, ◌≡◌, refl, Bool, true, false, cond, List, [], ◌∷◌, map, length, replicate, eqb, pos, Float, None, Some}
 use Prim.Native.Char.{code as byte_of}
 use Prim.Native.String.{String, [] as nothing, ◌∷◌ as ◌then◌}
-use Rattle.std.proofs.Math.Option.{none, some}
 use Rattle.std.specs.Float.Ieee.{lt, mul, div, of_int, of_bits, neg}
 use Rattle.std.specs.Float.{binary64}
 use Rattle.leaf_decimals.specs.Numbers.{number_of}
@@ -173,12 +172,12 @@ elses (action a ∷ cs) = a.otherwise ∷ elses cs
 whole : ℕ → Float
 whole n = of_int binary64 (pos n)
 
--- a network whose nodes are full, and a node of one letter, or of none as those have
+-- a network whose nodes are full, and a node of one letter, or of None as those have
 full : Network
 full = with_nodes (replicate room_nodes no_node) no_network
 
 a_node : List ℕ → Node
-a_node letters = record { id = record { at = 0; letters = letters }; kind = no_node.kind; place = none }
+a_node letters = record { id = record { at = 0; letters = letters }; kind = no_node.kind; place = None }
 
 answer_to : Read Network → ℕ
 answer_to (good m) = 0
@@ -195,7 +194,7 @@ record Right : Type 0 where
   -- CV in the minor loss's place is a malformed minor loss, and the pipe is open
   check-valve : map (λ (l : Link). link_status l.kind) (stored "[JUNCTIONS]\nJ\n[PIPES]\nP J J 1 2 3 CV\nQ J J 1 2 3 0 cv\n").links ≡ 1 ∷ 3 ∷ []
   -- the final S of AMS and PMS goes too
-  afternoon : (stored "[TIMES]\nDURATION 1 PMS\n").times ≡ some 46800 ∷ none ∷ none ∷ none ∷ none ∷ none ∷ []
+  afternoon : (stored "[TIMES]\nDURATION 1 PMS\n").times ≡ Some 46800 ∷ None ∷ None ∷ None ∷ None ∷ None ∷ []
   -- THEN, ELSE, THEN, AND: the AND is an else action, since an ELSE is never taken back
   else-stays : elses
       (stored "[JUNCTIONS]\nJ\n[PIPES]\nP J J 1 2 3\n[RULES]\nRULE A\nIF SYSTEM TIME = 6\nTHEN PIPE P STATUS IS OPEN\nELSE PIPE P STATUS IS OPEN\nTHEN PIPE P STATUS IS OPEN\nAND PIPE P STATUS IS OPEN\n\n").clauses

@@ -1,6 +1,5 @@
 -- Document 01, "Records by section": rules. A group's lines are read one after another; nothing is stored before all of them are good. Assumes nothing.
-use Rattle.std.specs.Prelude.{ℕ, ◌+◌, ◌^◌, Bool, true, false, cond, ◌&&◌, ◌||◌, List, [], ◌∷◌, ◌++◌, length, get_or, ltb, leb, pos, Float}
-use Rattle.std.proofs.Math.Option.{Option, none, some}
+use Rattle.std.specs.Prelude.{ℕ, ◌+◌, ◌^◌, Bool, true, false, cond, ◌&&◌, ◌||◌, List, [], ◌∷◌, ◌++◌, length, get_or, ltb, leb, pos, Float, None, Option, Some}
 use Rattle.std.specs.Float.{binary64}
 use Rattle.std.specs.Float.Ieee.{of_int}
 use Rattle.leaf_decimals.specs.Numbers.{number_of}
@@ -31,27 +30,27 @@ use Rattle.scope.specs.Values.{Read, good, bad, on_read, Took, took, refused, on
 -- ---- "a condition's target is one of four kinds, each with its own attribute (system, node, tank, link); ids in conditions are not looked up"
 abbrev pub system_target : List ℕ → Option Target
 system_target w =
-    cond (same w word_demand) (some (System system.Demand))
-    (cond (same w word_time) (some (System system.Time))
-    (cond (same w word_clocktime) (some (System system.Clocktime)) none))
+    cond (same w word_demand) (Some (System system.Demand))
+    (cond (same w word_time) (Some (System system.Time))
+    (cond (same w word_clocktime) (Some (System system.Clocktime)) None))
 
 abbrev pub node_target : List ℕ → Option Target
 node_target w =
-    cond (same w word_demand) (some (Node node.Demand))
-    (cond (same w word_head) (some (Node node.Head))
-    (cond (same w word_pressure) (some (Node node.Pressure)) none))
+    cond (same w word_demand) (Some (Node node.Demand))
+    (cond (same w word_head) (Some (Node node.Head))
+    (cond (same w word_pressure) (Some (Node node.Pressure)) None))
 
 abbrev pub tank_target : List ℕ → Option Target
 tank_target w =
-    cond (same w word_level) (some (Tank tankHas.Level))
-    (cond (same w word_filltime) (some (Tank tankHas.Filltime))
-    (cond (same w word_draintime) (some (Tank tankHas.Draintime)) none))
+    cond (same w word_level) (Some (Tank tankHas.Level))
+    (cond (same w word_filltime) (Some (Tank tankHas.Filltime))
+    (cond (same w word_draintime) (Some (Tank tankHas.Draintime)) None))
 
 abbrev pub link_target : List ℕ → Option Target
 link_target w =
-    cond (same w word_flow) (some (Link link.Flow))
-    (cond (same w word_status) (some (Link link.Status))
-    (cond (same w word_setting) (some (Link link.Setting)) none))
+    cond (same w word_flow) (Some (Link link.Flow))
+    (cond (same w word_status) (Some (Link link.Status))
+    (cond (same w word_setting) (Some (Link link.Setting)) None))
 
 -- the target, and the id of a node, a tank or a link
 pub record Aim : Type 0 where
@@ -59,18 +58,18 @@ pub record Aim : Type 0 where
   pub name : Option Name
 
 abbrev pub aimed : Option Name → Option Target → List Name → Took Aim
-aimed n none fs = refused UnknownWord
-aimed n (some t) fs = took (record { target = t; name = n }) fs
+aimed n None fs = refused UnknownWord
+aimed n (Some t) fs = took (record { target = t; name = n }) fs
 
 -- the attribute after SYSTEM; the id and the attribute after another word
 abbrev pub system_from : List Name → Took Aim
 system_from [] = refused Missing
-system_from (a ∷ fs) = aimed none (system_target a.letters) fs
+system_from (a ∷ fs) = aimed None (system_target a.letters) fs
 
 abbrev pub named_from : (List ℕ → Option Target) → List Name → Took Aim
 named_from target [] = refused Missing
 named_from target (n ∷ []) = refused Missing
-named_from target (n ∷ a ∷ fs) = aimed (some n) (target a.letters) fs
+named_from target (n ∷ a ∷ fs) = aimed (Some n) (target a.letters) fs
 
 abbrev pub is_link_word : List ℕ → Bool
 is_link_word w = same w word_link || same w word_pipe || same w word_valve || same w word_pump
@@ -190,13 +189,13 @@ pub record Draft : Type 0 where
   pub clauses : List Clause
 
 abbrev pub no_draft : Draft
-no_draft = record { id = none; priority = none; acting = false; otherwise = false; clauses = [] }
+no_draft = record { id = None; priority = None; acting = false; otherwise = false; clauses = [] }
 
 abbrev pub with_id : Name → Draft → Draft
-with_id n d = record { id = some n; priority = d.priority; acting = d.acting; otherwise = d.otherwise; clauses = d.clauses }
+with_id n d = record { id = Some n; priority = d.priority; acting = d.acting; otherwise = d.otherwise; clauses = d.clauses }
 
 abbrev pub with_priority : ℕ → Draft → Draft
-with_priority n d = record { id = d.id; priority = some n; acting = d.acting; otherwise = d.otherwise; clauses = d.clauses }
+with_priority n d = record { id = d.id; priority = Some n; acting = d.acting; otherwise = d.otherwise; clauses = d.clauses }
 
 abbrev pub with_clause : Bool → Bool → Clause → Draft → Draft
 with_clause acting otherwise c d = record { id = d.id; priority = d.priority; acting = acting; otherwise = otherwise; clauses = d.clauses ++ (c ∷ []) }
@@ -246,8 +245,8 @@ is_action (condition c) = false
 is_action (action a) = true
 
 abbrev pub some? : (Clause → Bool) → List Clause → Bool
-some? is [] = false
-some? is (c ∷ cs) = is c || some? is cs
+Some? is [] = false
+Some? is (c ∷ cs) = is c || Some? is cs
 
 abbrev pub with_rule : Name → Draft → Network → Network
 with_rule id d m =
@@ -260,11 +259,11 @@ add_rule id d m =
     (cond (ltb (length m.rules) room_rules && leb (length m.clauses + length d.clauses) room_clauses) (good (with_rule id d m)) (bad NoRoom))
 
 abbrev pub named : Option Name → Draft → Network → Read Network
-named none d m = bad NoId
-named (some id) d m = add_rule id d m
+named None d m = bad NoId
+named (Some id) d m = add_rule id d m
 
 unfoldable pub judged : Draft → Network → Read Network
-judged d m = cond (some? is_condition d.clauses) (cond (some? is_action d.clauses) (named d.id d m) (bad NoAction)) (bad NoCondition)
+judged d m = cond (Some? is_condition d.clauses) (cond (Some? is_action d.clauses) (named d.id d m) (bad NoAction)) (bad NoCondition)
 
 -- what a group's lines, as their fields, do to the network: "Links are looked up when the group closes."
 unfoldable pub group_step : List (List Name) → Network → Read Network

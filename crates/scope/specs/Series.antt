@@ -1,12 +1,9 @@
 -- Document 01, "Records by section": curves, patterns and demands; and the patterns' places, worked out once the text is read to its end. Assumes nothing.
-use Rattle.std.specs.Prelude.{ℕ, suc, ◌+◌, Bool, false, cond, ◌&&◌, List, [], ◌∷◌, ◌++◌, map, length, set, get_or, ltb, leb, eqb, Float}
-use Rattle.std.proofs.Math.Option.{Option, none, some}
+use Rattle.std.specs.Prelude.{ℕ, suc, ◌+◌, Bool, false, cond, ◌&&◌, List, [], ◌∷◌, ◌++◌, map, length, set, get_or, ltb, leb, eqb, Float, None, Option, Some}
 use Rattle.std.specs.Float.Ieee.{lt}
 use Rattle.leaf_decimals.specs.Numbers.{number_of}
 use Rattle.leaf_fields.specs.Fields.{Name}
 use Rattle.scope.specs.declared.Reason.TheVariants.{NotFound, WrongKind, XFalls, NoRoom}
-use Rattle.scope.specs.declared.Found.{Found}
-use Rattle.scope.specs.declared.Found.TheVariants.{At, Nowhere}
 use Rattle.scope.specs.Sections.{room_curves, room_points, room_patterns, room_multipliers, room_demands}
 use Rattle.scope.specs.Records.{Network, Node, NodeKind, junction, reservoir, tank, Point, Multiplier, Demand, no_node, with_nodes, with_curves, with_points}
 use Rattle.scope.specs.Records.{with_patterns, with_multipliers, with_demands, node_ids, lookup}
@@ -15,17 +12,17 @@ use Rattle.scope.specs.Nodes.{on_junction}
 
 -- ---- "Curve: id, x, y." "x equal to the last is taken, smaller 6, NaN taken."
 abbrev pub or_else : {A : Type 0} → Option A → Option A → Option A
-or_else none b = b
-or_else (some a) b = some a
+or_else None b = b
+or_else (Some a) b = Some a
 
 -- the last x of curve number i
 unfoldable pub last_x : ℕ → List Point → Option Float
-last_x i [] = none
-last_x i (p ∷ ps) = or_else (last_x i ps) (cond (eqb p.curve i) (some p.x) none)
+last_x i [] = None
+last_x i (p ∷ ps) = or_else (last_x i ps) (cond (eqb p.curve i) (Some p.x) None)
 
 abbrev pub falls : Float → Option Float → Bool
-falls x none = false
-falls x (some y) = lt x y
+falls x None = false
+falls x (Some y) = lt x y
 
 abbrev pub with_point : ℕ → Float → Float → Network → Network
 with_point i x y m = with_points (m.points ++ (record { curve = i; x = x; y = y } ∷ [])) m
@@ -42,7 +39,7 @@ add_point id x y m =
 unfoldable pub curve_step : List Name → Network → Read Network
 curve_step fs m = on_read (pair_of fs) (λ p. add_point p.id p.x p.y m)
 
--- ---- "Pattern: id and any count of multipliers, none included; all or nothing."
+-- ---- "Pattern: id and any count of multipliers, None included; all or nothing."
 unfoldable pub multipliers_of : List Name → Read (List Float)
 multipliers_of [] = good []
 multipliers_of (f ∷ fs) = on_took (as_number (number_of f.letters) fs) (λ x rest. on_read (multipliers_of fs) (λ xs. good (x ∷ xs)))
@@ -90,12 +87,12 @@ demand_of fs =
     good (record { id = id; base = base; pattern = pattern }))))
 
 -- the place of the demand of junction number i's own line, if it stands still; the demands start at number k
-unfoldable pub own_from : ℕ → ℕ → List Demand → Found
-own_from k i [] = Nowhere
-own_from k i (d ∷ ds) = cond (eqb d.node i && d.own) (At k) (own_from (suc k) i ds)
+unfoldable pub own_from : ℕ → ℕ → List Demand → Option ℕ
+own_from k i [] = None
+own_from k i (d ∷ ds) = cond (eqb d.node i && d.own) (Some k) (own_from (suc k) i ds)
 
 abbrev pub demand_at : ℕ → Float → Option Name → Demand
-demand_at i x p = record { node = i; own = false; base = x; pattern = p; index = none }
+demand_at i x p = record { node = i; own = false; base = x; pattern = p; index = None }
 
 unfoldable pub add_demand : ℕ → Float → Option Name → Network → Read Network
 add_demand i x p m =
@@ -113,13 +110,13 @@ unfoldable pub demand_step : List Name → Network → Read Network
 demand_step fs m = on_read (demand_of fs) (λ d. set_demand d.id d.base d.pattern m)
 
 -- ---- "`resolve_pattern_indices` stays and runs only once the text is read to its end": the place of each pattern that is named
-abbrev pub place_in : Found → Option ℕ
-place_in (At i) = some i
-place_in Nowhere = none
+abbrev pub place_in : Option ℕ → Option ℕ
+place_in (Some i) = Some i
+place_in None = None
 
 abbrev pub index_of : List Name → Option Name → Option ℕ
-index_of ps none = none
-index_of ps (some n) = place_in (lookup ps n.letters)
+index_of ps None = None
+index_of ps (Some n) = place_in (lookup ps n.letters)
 
 abbrev pub resolved_kind : List Name → NodeKind → NodeKind
 resolved_kind ps (junction j) = junction j

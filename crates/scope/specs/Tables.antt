@@ -1,7 +1,6 @@
 -- Document 01, "Room", and docs/LAYOUT.md: what the two lent tables hold. Each is cut into regions; a region holds the records of one kind, each with the same number of
 -- places, and then zeros. The counts stand last. Assumes nothing.
-use Rattle.std.specs.Prelude.{ℕ, zero, suc, ◌+◌, ◌-◌, ◌*◌, ◌%◌, Bool, true, false, List, [], ◌∷◌, ◌++◌, length, take, get_or, set, replicate, Float}
-use Rattle.std.proofs.Math.Option.{Option, none, some}
+use Rattle.std.specs.Prelude.{ℕ, zero, suc, ◌+◌, ◌-◌, ◌*◌, ◌%◌, Bool, true, false, List, [], ◌∷◌, ◌++◌, length, take, get_or, set, replicate, Float, None, Option, Some}
 use Rattle.leaf_fields.specs.Fields.{Name}
 use Rattle.scope.specs.declared.PipeStatus.{PipeStatus}
 use Rattle.scope.specs.declared.PipeStatus.TheVariants as pipeIs
@@ -54,23 +53,23 @@ id_words n = n.at ∷ length n.letters ∷ key_of n.letters ∷ []
 
 -- a name that is not looked up by its table, and may be missing: place and length, or 0 and 0 (a field is never empty)
 abbrev pub name_words : Option Name → List ℕ
-name_words none = 0 ∷ 0 ∷ []
-name_words (some n) = n.at ∷ length n.letters ∷ []
+name_words None = 0 ∷ 0 ∷ []
+name_words (Some n) = n.at ∷ length n.letters ∷ []
 
 -- ---- small values
 abbrev pub flag : Bool → ℕ
 flag false = 0
 flag true = 1
 
--- none is 0 and an index is itself plus one
+-- None is 0 and an index is itself plus one
 abbrev pub index_no : Option ℕ → ℕ
-index_no none = 0
-index_no (some i) = suc i
+index_no None = 0
+index_no (Some i) = suc i
 
 -- a number that may be any u64 keeps a flag of its own
 abbrev pub count_words : Option ℕ → List ℕ
-count_words none = 0 ∷ 0 ∷ []
-count_words (some n) = 1 ∷ n ∷ []
+count_words None = 0 ∷ 0 ∷ []
+count_words (Some n) = 1 ∷ n ∷ []
 
 abbrev pub pipe_status_no : PipeStatus → ℕ
 pipe_status_no pipeIs.Open = 1
@@ -139,12 +138,12 @@ kind_numbers (reservoir r) = r.elevation ∷ zero_f ∷ zero_f ∷ zero_f ∷ ze
 kind_numbers (tank t) = t.elevation ∷ t.initial ∷ t.minimum ∷ t.maximum ∷ t.diameter ∷ t.volume ∷ []
 
 abbrev pub placed : Option Place → ℕ
-placed none = 0
-placed (some p) = 1
+placed None = 0
+placed (Some p) = 1
 
 abbrev pub place_numbers : Option Place → List Float
-place_numbers none = zero_f ∷ zero_f ∷ []
-place_numbers (some p) = p.x ∷ p.y ∷ []
+place_numbers None = zero_f ∷ zero_f ∷ []
+place_numbers (Some p) = p.x ∷ p.y ∷ []
 
 abbrev pub node_words : Node → List ℕ
 node_words n = id_words n.id ++ kind_words n.kind ++ (placed n.place ∷ [])
@@ -195,7 +194,7 @@ rule_words r = id_words r.id ++ (r.first ∷ r.count ∷ count_words r.priority)
 
 abbrev pub clause_words : Clause → List ℕ
 clause_words (condition c) = 1 ∷ operator_no c.operator ∷ target_no c.target ∷ comparison_no c.comparison ∷ value_no c.value ∷ name_words c.name
-clause_words (action a) = 2 ∷ flag a.otherwise ∷ a.link ∷ 0 ∷ value_no a.value ∷ name_words (some a.name)
+clause_words (action a) = 2 ∷ flag a.otherwise ∷ a.link ∷ 0 ∷ value_no a.value ∷ name_words (Some a.name)
 
 abbrev pub clause_numbers : Clause → List Float
 clause_numbers (condition c) = value_number c.value ∷ []
@@ -217,7 +216,7 @@ slots_from slot i (r ∷ rs) ss = slots_from slot (suc i) rs (marked ss (slot r)
 abbrev pub slots : {R : Type 0} → (R → ℕ) → ℕ → List R → List ℕ
 slots slot n rs = slots_from slot 0 rs (replicate n 0)
 
--- the slot of a node, a link, a curve or a pattern is by the key of its name, a demand's by its junction; rules have none
+-- the slot of a node, a link, a curve or a pattern is by the key of its name, a demand's by its junction; rules have None
 abbrev pub slot_of : ℕ → ℕ
 slot_of key = key % room_slots
 

@@ -1,6 +1,5 @@
 -- Document 01, "Records by section": times. Assumes nothing.
-use Rattle.std.specs.Prelude.{ℕ, Bool, cond, not, ◌&&◌, List, [], ◌∷◌, set}
-use Rattle.std.proofs.Math.Option.{some}
+use Rattle.std.specs.Prelude.{ℕ, Bool, cond, not, ◌&&◌, List, [], ◌∷◌, set, Some}
 use Rattle.leaf_decimals.specs.Numbers.{number_of}
 use Rattle.leaf_clock.specs.Times.{has_colon}
 use Rattle.leaf_fields.specs.Fields.{Name}
@@ -26,7 +25,7 @@ option_of_two a b =
 
 -- "each set or not set"
 abbrev pub with_time : ℕ → ℕ → Network → Network
-with_time k n m = with_times (set m.times k (some n)) m
+with_time k n m = with_times (set m.times k (Some n)) m
 
 abbrev pub set_time : TimeOption → ℕ → Network → Network
 set_time Duration n m = with_time 0 n m

@@ -1,21 +1,16 @@
 -- Document 01, "Numbers and times", as the fields of a line give them: a reader takes one field after another. Assumes nothing.
-use Rattle.std.specs.Prelude.{ℕ, Bool, true, false, cond, List, [], ◌∷◌, Float}
-use Rattle.std.proofs.Math.Option.{Option, none, some}
+use Rattle.leaf_clock.specs.declared.TimeError.{TimeError}
+use Rattle.leaf_decimals.specs.declared.NumberError.{NumberError}
+use Rattle.std.specs.Prelude.{ℕ, Bool, true, false, cond, List, [], ◌∷◌, Float, Err, None, Ok, Option, Result, Some}
 use Rattle.leaf_decimals.specs.Numbers.{number_of}
 use Rattle.leaf_counts.specs.Counts.{count_of}
-use Rattle.leaf_decimals.specs.declared.Number as N
-use Rattle.leaf_decimals.specs.declared.Number.TheVariants as number
-use Rattle.leaf_counts.specs.declared.Count as C
-use Rattle.leaf_counts.specs.declared.Count.TheVariants as count
+use Rattle.leaf_decimals.specs.declared.NumberError.TheVariants as number
 use Rattle.leaf_clock.specs.Times.{time_of}
-use Rattle.leaf_clock.specs.declared.Time as T
-use Rattle.leaf_clock.specs.declared.Time.TheVariants as time
+use Rattle.leaf_clock.specs.declared.TimeError.TheVariants as time
 use Rattle.leaf_fields.specs.Fields.{Name, letters_or, rest}
 use Rattle.leaf_letters.specs.Words.{same}
 use Rattle.scope.specs.declared.Reason.{Reason}
 use Rattle.scope.specs.declared.Reason.TheVariants.{Missing, Malformed, UnknownWord, BeyondReach}
-use Rattle.scope.specs.declared.Found.{Found}
-use Rattle.scope.specs.declared.Found.TheVariants.{At, Nowhere}
 use Rattle.scope.specs.Spelling.{word_true, word_false}
 
 -- a result, or the reason of a refusal
@@ -36,9 +31,9 @@ abbrev pub on_took : {A B : Type 0} → Took A → (A → List Name → Read B) 
 on_took (took a fs) k = k a fs
 on_took (refused r) k = bad r
 
-abbrev pub on_found : {B : Type 0} → Found → (ℕ → B) → B → B
-on_found (At i) k b = k i
-on_found Nowhere k b = b
+abbrev pub on_found : {B : Type 0} → Option ℕ → (ℕ → B) → B → B
+on_found (Some i) k b = k i
+on_found None k b = b
 
 -- ---- names
 -- a name that must be there, and one that may be
@@ -47,14 +42,14 @@ name_from [] = refused Missing
 name_from (f ∷ fs) = took f fs
 
 abbrev pub optional_from : List Name → Took (Option Name)
-optional_from [] = took none []
-optional_from (f ∷ fs) = took (some f) fs
+optional_from [] = took None []
+optional_from (f ∷ fs) = took (Some f) fs
 
 -- ---- numbers
-abbrev pub as_number : N.Number → List Name → Took Float
-as_number (number.Value x) fs = took x fs
-as_number number.Malformed fs = refused Malformed
-as_number number.Beyond fs = refused BeyondReach
+abbrev pub as_number : Result Float NumberError → List Name → Took Float
+as_number (Ok x) fs = took x fs
+as_number (Err number.Malformed) fs = refused Malformed
+as_number (Err number.Beyond) fs = refused BeyondReach
 
 -- a number that must be there
 abbrev pub number_from : List Name → Took Float
@@ -66,20 +61,20 @@ abbrev pub number_or : List ℕ → List Name → Took Float
 number_or other fs = as_number (number_of (letters_or other fs)) (rest fs)
 
 -- a number that is `d` where it is missing or malformed: "a well-formed number beyond reach is refused even there"
-abbrev pub as_swallowed : Float → N.Number → List Name → Took Float
-as_swallowed d (number.Value x) fs = took x fs
-as_swallowed d number.Malformed fs = took d fs
-as_swallowed d number.Beyond fs = refused BeyondReach
+abbrev pub as_swallowed : Float → Result Float NumberError → List Name → Took Float
+as_swallowed d (Ok x) fs = took x fs
+as_swallowed d (Err number.Malformed) fs = took d fs
+as_swallowed d (Err number.Beyond) fs = refused BeyondReach
 
 abbrev pub swallowed_from : Float → List Name → Took Float
 swallowed_from d [] = took d []
 swallowed_from d (f ∷ fs) = as_swallowed d (number_of f.letters) fs
 
 -- whether a text is a number, within reach or beyond
-abbrev pub is_number : N.Number → Bool
-is_number (number.Value x) = true
-is_number number.Malformed = false
-is_number number.Beyond = true
+abbrev pub is_number : Result Float NumberError → Bool
+is_number (Ok x) = true
+is_number (Err number.Malformed) = false
+is_number (Err number.Beyond) = true
 
 -- ---- an id and two numbers, x and y: a line of CURVES and a line of COORDINATES
 pub record PairFields : Type 0 where
@@ -95,19 +90,19 @@ pair_of fs =
     good (record { id = id; x = x; y = y }))))
 
 -- ---- counts and times
-abbrev pub as_count : C.Count → Read ℕ
-as_count (count.Whole n) = good n
-as_count count.Uncounted = bad Malformed
+abbrev pub as_count : Option ℕ → Read ℕ
+as_count (Some n) = good n
+as_count None = bad Malformed
 
 abbrev pub count_from : List Name → Read ℕ
 count_from [] = bad Missing
 count_from (f ∷ fs) = as_count (count_of f.letters)
 
-abbrev pub as_time : T.Time → Read ℕ
-as_time (time.Seconds n) = good n
-as_time time.Malformed = bad Malformed
-as_time time.Beyond = bad BeyondReach
-as_time time.UnknownUnit = bad UnknownWord
+abbrev pub as_time : Result ℕ TimeError → Read ℕ
+as_time (Ok n) = good n
+as_time (Err time.Malformed) = bad Malformed
+as_time (Err time.Beyond) = bad BeyondReach
+as_time (Err time.UnknownUnit) = bad UnknownWord
 
 -- a time, with its unit where one follows
 abbrev pub time_at : Name → List Name → Read ℕ

@@ -1,6 +1,5 @@
 -- "A field is handed out as the part of the caller's text it is": every name of a network is written in the text. A reading gives no other networks. Assumes nothing.
-use Rattle.std.specs.Prelude.{ℕ, ◌<◌, ◌≡◌, List, length, take, drop}
-use Rattle.std.proofs.Math.Option.{Option, none, some}
+use Rattle.std.specs.Prelude.{ℕ, ◌<◌, ◌≡◌, List, length, take, drop, None, Option, Some}
 use Rattle.leaf_fields.specs.Fields.{Name}
 use Rattle.scope_lines.specs.Text.{Each}
 use Rattle.scope.specs.Records.{Network, Node, NodeKind, junction, reservoir, tank, Link, LinkKind, pipe, pump, valve, Demand, Rule, Clause, condition, action}
@@ -12,8 +11,8 @@ pub record Sits (text : List ℕ) (n : Name) : Type 0 where
 
 -- a name that may be missing
 abbrev pub SitsOr : List ℕ → Option Name → Type 0
-SitsOr text none = Unit {0}
-SitsOr text (some n) = Sits text n
+SitsOr text None = Unit {0}
+SitsOr text (Some n) = Sits text n
 
 abbrev pub NodeKindWritten : List ℕ → NodeKind → Type 0
 NodeKindWritten text (junction j) = Unit {0}

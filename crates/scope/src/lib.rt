@@ -1,7 +1,7 @@
 // The vocabulary of document 01, declared once. What each word means is said in specs/, heading by heading of the paper.
 #![tactic(auto)]
 
-use leaf_fields::{Field, Span};
+use leaf_fields::{Span};
 
 // "Sections read and sections passed over": the thirteen that are read, and whatever is passed over.
 #[derive(Clone, Copy)]
@@ -52,13 +52,6 @@ pub enum Kind {
     Rules,
 }
 
-// What a name's lookup gives: the first place in its table.
-#[derive(Clone, Copy)]
-pub enum Found {
-    At(usize),
-    Nowhere,
-}
-
 // A tank's six numbers, its volume curve and whether it may overflow.
 #[derive(Clone, Copy)]
 pub struct Tank {
@@ -68,7 +61,7 @@ pub struct Tank {
     pub maximum: f64,
     pub diameter: f64,
     pub volume: f64,
-    pub curve: Field,
+    pub curve: Option<Span>,
     pub overflow: bool,
 }
 
@@ -91,7 +84,7 @@ pub struct Pipe {
 #[derive(Clone, Copy)]
 pub struct Pump {
     pub speed: f64,
-    pub head: Field,
+    pub head: Option<Span>,
     pub power: f64,
 }
 
@@ -101,7 +94,7 @@ pub struct Valve {
     pub diameter: f64,
     pub setting: f64,
     pub minor: f64,
-    pub curve: Field,
+    pub curve: Option<Span>,
 }
 
 #[derive(Clone, Copy)]
@@ -144,7 +137,7 @@ pub enum TimeOption {
 #[derive(Clone, Copy)]
 pub enum SystemAttribute {
     Demand,
-    Time,
+    Result<u64, TimeError>,
     Clocktime,
 }
 
@@ -206,7 +199,7 @@ pub enum Value {
 pub struct Condition {
     pub operator: Operator,
     pub target: Target,
-    pub name: Field,
+    pub name: Option<Span>,
     pub comparison: Comparison,
     pub value: Value,
 }

@@ -1,4 +1,5 @@
 -- In every network that is read the rules lie end to end over the clauses, and each action's link is one of the links. Assumes nothing.
+use Rattle.std.specs.Prelude.{None, Some}
 use Prim.{Unit, tt}
 use Prim.Native.Nat.{ℕ, ◌+◌, ◌<◌, ◌≤◌}
 use native.Mathlib.Omega.{arith}
@@ -14,8 +15,6 @@ use Rattle.scope_lines.specs.Reader as L
 use Rattle.scope_lines.specs.Text.{Line, lines_of, Each, nothing, each}
 use Rattle.scope.specs.declared.Section.{Section}
 use Rattle.scope.specs.declared.Section.TheVariants.{Junctions, Reservoirs, Tanks, Pipes, Pumps, Valves, Curves, Patterns, Demands, Emitters, Coordinates, Times, Rules, Passed}
-use Rattle.scope.specs.declared.Found.{Found}
-use Rattle.scope.specs.declared.Found.TheVariants.{At, Nowhere}
 use Rattle.scope.specs.declared.Operator.{Operator}
 use Rattle.scope.specs.declared.Operator.TheVariants.{And, Or}
 use Rattle.scope.specs.declared.TimeOption.{TimeOption}
@@ -97,9 +96,9 @@ module _ {B : Type 0} {P : B → Type 0} where
   from-took (took a fs) h = h a fs
   from-took (refused r) h = badly
 
-  from_found : (t : Found) {k : ℕ → Read B} {b : Read B} → ((i : ℕ) → t ≡ At i → Fine P (k i)) → Fine P b → Fine P (on_found t k b)
-  from_found (At i) h d = h i refl
-  from_found Nowhere h d = d
+  from_found : (t : Option ℕ) {k : ℕ → Read B} {b : Read B} → ((i : ℕ) → t ≡ Some i → Fine P (k i)) → Fine P b → Fine P (on_found t k b)
+  from_found (Some i) h d = h i refl
+  from_found None h d = d
 
   from-if : (t : Bool) {x y : Read B} → Fine P x → Fine P y → Fine P (cond t x y)
   from-if true p q = p

@@ -1,4 +1,6 @@
 -- The last x of a curve, looked for from the end on; and what storing a point makes of the network. Assumes nothing.
+use Rattle.scope.specs.declared.Reason.{Reason}
+use Rattle.std.specs.Prelude.{Err, None, Ok, Result, Some}
 use Prim.Native.Nat.{ℕ, suc, ◌+◌, ◌-◌, ◌*◌, ◌≤◌, ◌<◌}
 use native.Mathlib.Omega.{arith}
 use borrow.Author.Tests.{lt-ltb, le-ltb, eq-eqb, ne_eqb}
@@ -16,14 +18,11 @@ use Rattle.scope.specs.Records.{Network, Point, no_point, lookup}
 use Rattle.scope.specs.Sections.{room_curves, room_points}
 use Rattle.scope.specs.Series.{or_else, last_x, falls, add_point}
 use Rattle.scope.specs.declared.Counts.{Counts}
-use Rattle.scope.specs.declared.Found.TheVariants.{At, Nowhere}
 use Rattle.scope.specs.declared.Reason.TheVariants.{XFalls, NoRoom}
 use Rattle.table_rows.specs.Table.{splice}
 use Rattle.scope.specs.Layout.{points_at, point_numbers_at, point_numbers_width, point_x}
 use Rattle.table_rows.specs.Adding.{curve_added}
 use Rattle.table_rows.specs.Holding.{Words, Numbers, Holds, After}
-use Rattle.table_rows.specs.declared.Kept.{Kept}
-use Rattle.table_rows.specs.declared.Kept.TheVariants.{Stored, Refused}
 use Rattle.table_rows.proofs.HoldLaws.{sits-span, add-curve, add-point, count-curves, count-points}
 use Rattle.table_rows.proofs.ReadLaws.{point-word, point-number}
 
@@ -83,25 +82,25 @@ module _ {text : List ℕ} {m : Network} {s : Counts} {w : List ℕ} {f : List F
   abbrev letters : List ℕ
   letters = part id.at id.end text
 
-  abbrev Answers : Kept → List ℕ → List Float → Type 0
+  abbrev Answers : Result Counts Reason → List ℕ → List Float → Type 0
   Answers r w' f' = After text (add_point (name_in text id) x y m) r w f w' f'
 
   and-false : (t : Bool) → (t && false) ≡ false
   and-false true = refl
   and-false false = refl
 
-  pub curves-full : lookup m.curves letters ≡ Nowhere → room_curves ≤ s.curves → Answers (Refused NoRoom) w f
+  pub curves-full : lookup m.curves letters ≡ None → room_curves ≤ s.curves → Answers (Err NoRoom) w f
   unfolding add_point
   curves-full e k = rw (e, le-ltb (length m.curves) room_curves (omega (arith, k, count-curves h))) (refl, refl, refl)
 
-  pub no_room : lookup m.curves letters ≡ Nowhere → room_points ≤ s.points → Answers (Refused NoRoom) w f
+  pub no_room : lookup m.curves letters ≡ None → room_points ≤ s.points → Answers (Err NoRoom) w f
   unfolding add_point
   no_room e k = rw (e, le-ltb (length m.points) room_points (omega (arith, k, count-points h)), and-false (ltb (length m.curves) room_curves)) (refl, refl, refl)
 
-  pub starts : (w1 w2 : List ℕ) (f1 : List Float) → lookup m.curves letters ≡ Nowhere → Fits text id → s.curves < room_curves → s.points < room_points
+  pub starts : (w1 w2 : List ℕ) (f1 : List Float) → lookup m.curves letters ≡ None → Fits text id → s.curves < room_curves → s.points < room_points
       → w1 ≡ curve_added w s.curves (name_in text id) → w2 ≡ splice w1 (points_at + s.points) (s.curves ∷ []) → f1 ≡ splice f (point_numbers_at + s.points * point_numbers_width) (x ∷ y ∷ [])
       → Answers
-      (Stored (record { nodes = s.nodes; links = s.links; curves = s.curves + 1; points = s.points + 1; patterns = s.patterns; multipliers = s.multipliers; demands = s.demands; rules = s.rules; clauses = s.clauses }))
+      (Ok (record { nodes = s.nodes; links = s.links; curves = s.curves + 1; points = s.points + 1; patterns = s.patterns; multipliers = s.multipliers; demands = s.demands; rules = s.rules; clauses = s.clauses }))
       w2 f1
   unfolding add_point
   starts w1 w2 f1 e fits kc kp ew1 ew2 ef =
@@ -112,20 +111,20 @@ module _ {text : List ℕ} {m : Network} {s : Counts} {w : List ℕ} {f : List F
       rw (e, lt-ltb (length m.curves) room_curves (omega (arith, kc, count-curves h)), lt-ltb (length m.points) room_points (omega (arith, kp, count-points h)))
       (rw (h.counts, length-append, length-append), h2)
 
-  module _ (i : ℕ) (e : lookup m.curves letters ≡ At i) where
-    pub falling : falls x (last_x i m.points) ≡ true → Answers (Refused XFalls) w f
+  module _ (i : ℕ) (e : lookup m.curves letters ≡ Some i) where
+    pub falling : falls x (last_x i m.points) ≡ true → Answers (Err XFalls) w f
     unfolding add_point
     falling q = rw (e, q) (refl, refl, refl)
 
     module _ (q : falls x (last_x i m.points) ≡ false) where
-      pub points-full : room_points ≤ s.points → Answers (Refused NoRoom) w f
+      pub points-full : room_points ≤ s.points → Answers (Err NoRoom) w f
       unfolding add_point
       points-full k = rw (e, q, le-ltb (length m.points) room_points (omega (arith, k, count-points h))) (refl, refl, refl)
 
       pub goes_on-law : (w1 : List ℕ) (f1 : List Float) → s.points < room_points
           → w1 ≡ splice w (points_at + s.points) (i ∷ []) → f1 ≡ splice f (point_numbers_at + s.points * point_numbers_width) (x ∷ y ∷ [])
           → Answers
-          (Stored (record { nodes = s.nodes; links = s.links; curves = s.curves; points = s.points + 1; patterns = s.patterns; multipliers = s.multipliers; demands = s.demands; rules = s.rules; clauses = s.clauses }))
+          (Ok (record { nodes = s.nodes; links = s.links; curves = s.curves; points = s.points + 1; patterns = s.patterns; multipliers = s.multipliers; demands = s.demands; rules = s.rules; clauses = s.clauses }))
           w1 f1
       unfolding add_point
       goes_on-law w1 f1 k ew ef =

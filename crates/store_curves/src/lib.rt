@@ -10,9 +10,8 @@ ghost use Rattle.table_rows.specs.Table.{splice};
 ghost use Rattle.scope.specs.Layout.{points_at, point_numbers_at, point_numbers_width, record_words, room_numbers};
 ghost use Rattle.table_rows.specs.Holding.{Words, Numbers, Holds, Sound, After};
 
-use parse_pairs::{PairLine, PairRead};
-use scope::{Counts, Found, Kind, Reason};
-use table_rows::Kept;
+use parse_pairs::{PairLine};
+use scope::{Counts, Kind, Reason};
 
 // Whether x is less than the last x of a curve: its last point is looked for from the end on.
 fn falls_behind(words: &[u64], numbers: &[f64], points: usize, curve: usize, x: f64) -> bool
@@ -45,7 +44,7 @@ fn put_point(words: &mut [u64], numbers: &mut [f64], k: usize, curve: usize, x: 
     );
 }
 
-fn store_point(text: &[u8], p: PairLine, s: Counts, words: &mut [u64], numbers: &mut [f64]) -> Kept
+fn store_point(text: &[u8], p: PairLine, s: Counts, words: &mut [u64], numbers: &mut [f64]) -> Result<Counts, Reason>
     requires { Sound text.now s words.old numbers.old × Fits text.now p.id }
     ensures { (m : Network) → Holds text.now m s words.old numbers.old
         → After text.now (add_point (name_in text.now p.id) p.x p.y m) result words.old numbers.old words.new numbers.new }
@@ -57,17 +56,17 @@ fn store_point(text: &[u8], p: PairLine, s: Counts, words: &mut [u64], numbers: 
     let mut t = s;
     t.points = k + 1;
     match found {
-        Found::At(i) => {
+        Some(i) => {
             if falls_behind(words, numbers, k, i, p.x) {
-                return Kept::Refused(Reason::XFalls);
+                return Err(Reason::XFalls);
             }
             if k < table_rows::POINTS_MOST {
                 put_point(words, numbers, k, i, p.x, p.y);
-                return Kept::Stored(t);
+                return Ok(t);
             }
-            Kept::Refused(Reason::NoRoom)
+            Err(Reason::NoRoom)
         }
-        Found::Nowhere => {
+        None => {
             if n < table_rows::CURVES_MOST {
                 if k < table_rows::POINTS_MOST {
                     table_rows::put_id(
@@ -80,10 +79,10 @@ fn store_point(text: &[u8], p: PairLine, s: Counts, words: &mut [u64], numbers: 
                     );
                     put_point(words, numbers, k, n, p.x, p.y);
                     t.curves = n + 1;
-                    return Kept::Stored(t);
+                    return Ok(t);
                 }
             }
-            Kept::Refused(Reason::NoRoom)
+            Err(Reason::NoRoom)
         }
     }
 }
@@ -96,14 +95,14 @@ pub fn curve_line(
     s: Counts,
     words: &mut [u64],
     numbers: &mut [f64],
-) -> Kept
+) -> Result<Counts, Reason>
     requires { Sound text.now s words.old numbers.old × (end ≤ length text.now) }
     ensures { (m : Network) → Holds text.now m s words.old numbers.old
         → After text.now (curve_step (fields_at (take end text.now) at) m) result words.old numbers.old words.new numbers.new }
 {
     let read = parse_pairs::read_pair(&text[..end], at);
     match read {
-        PairRead::Pair(p) => store_point(text, p, s, words, numbers),
-        PairRead::NoPair(why) => Kept::Refused(why),
+        Ok(p) => store_point(text, p, s, words, numbers),
+        Err(why) => Err(why),
     }
 }

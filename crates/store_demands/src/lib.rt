@@ -13,9 +13,8 @@ ghost use Rattle.scope.specs.Layout.{demands_at, demands_width, demand_numbers_a
 ghost use Rattle.table_rows.specs.Holding.{Words, Holds, Sound, After};
 ghost use Rattle.store_demands.specs.Storing.{is_own};
 
-use parse_series::{DemandLine, DemandRead};
-use scope::{Counts, Found, Reason};
-use table_rows::Kept;
+use parse_series::{DemandLine};
+use scope::{Counts, Reason};
 
 // Whether demand number k is that of the junction's own line.
 fn is_own(words: &[u64], k: usize, node: usize) -> bool
@@ -30,7 +29,7 @@ fn is_own(words: &[u64], k: usize, node: usize) -> bool
 }
 
 // The place of the demand of the junction's own line, if it stands still: it is the first in its slot.
-fn own_demand(words: &[u64], demands: usize, node: usize) -> Found
+fn own_demand(words: &[u64], demands: usize, node: usize) -> Option<usize>
     requires { (demands ≤ room_demands) × (length words.now ≡ record_words) }
     ensures { (text : List ℕ) (m : Network) → Words text m words.now → demands ≡ length m.demands → result ≡ own_from 0 node m.demands }
 {
@@ -41,10 +40,10 @@ fn own_demand(words: &[u64], demands: usize, node: usize) -> Found
     );
     if k < demands {
         if is_own(words, k, node) {
-            return Found::At(k);
+            return Some(k);
         }
     }
-    Found::Nowhere
+    None
 }
 
 // Demand number k.
@@ -84,7 +83,7 @@ fn add_demand(
     s: Counts,
     words: &mut [u64],
     numbers: &mut [f64],
-) -> Kept
+) -> Result<Counts, Reason>
     requires { Sound text.now s words.old numbers.old × MayFit text.now d.pattern × (node < s.nodes) }
     ensures { (m : Network) → Holds text.now m s words.old numbers.old
         → After text.now (add_demand node d.base (opt_in text.now d.pattern) m) result words.old numbers.old words.new numbers.new }
@@ -92,11 +91,11 @@ fn add_demand(
     let n = s.demands;
     let own = own_demand(words, n, node);
     match own {
-        Found::At(k) => {
+        Some(k) => {
             put_demand(text, d, node, k, words, numbers);
-            Kept::Stored(s)
+            Ok(s)
         }
-        Found::Nowhere => {
+        None => {
             if n < table_rows::DEMANDS_MOST {
                 put_demand(text, d, node, n, words, numbers);
                 table_rows::mark(
@@ -106,9 +105,9 @@ fn add_demand(
                 );
                 let mut t = s;
                 t.demands = n + 1;
-                return Kept::Stored(t);
+                return Ok(t);
             }
-            Kept::Refused(Reason::NoRoom)
+            Err(Reason::NoRoom)
         }
     }
 }
@@ -119,20 +118,20 @@ fn store_demand(
     s: Counts,
     words: &mut [u64],
     numbers: &mut [f64],
-) -> Kept
+) -> Result<Counts, Reason>
     requires { Sound text.now s words.old numbers.old × Fits text.now d.id × MayFit text.now d.pattern }
     ensures { (m : Network) → Holds text.now m s words.old numbers.old
         → After text.now (set_demand (name_in text.now d.id) d.base (opt_in text.now d.pattern) m) result words.old
         numbers.old words.new numbers.new }
 {
     let found = table_find::node_named(text, words, s.nodes, d.id);
-    let Found::At(i) = found else {
-        return Kept::Refused(Reason::NotFound);
+    let Some(i) = found else {
+        return Err(Reason::NotFound);
     };
     if table_find::is_junction(words, i) {
         return add_demand(text, d, i, s, words, numbers);
     }
-    Kept::Refused(Reason::WrongKind)
+    Err(Reason::WrongKind)
 }
 
 // The line of DEMANDS from `at` to `end`.
@@ -143,14 +142,14 @@ pub fn demand_line(
     s: Counts,
     words: &mut [u64],
     numbers: &mut [f64],
-) -> Kept
+) -> Result<Counts, Reason>
     requires { Sound text.now s words.old numbers.old × (end ≤ length text.now) }
     ensures { (m : Network) → Holds text.now m s words.old numbers.old
         → After text.now (demand_step (fields_at (take end text.now) at) m) result words.old numbers.old words.new numbers.new }
 {
     let read = parse_series::read_demand(&text[..end], at);
     match read {
-        DemandRead::Demand(d) => store_demand(text, d, s, words, numbers),
-        DemandRead::NoDemand(why) => Kept::Refused(why),
+        Ok(d) => store_demand(text, d, s, words, numbers),
+        Err(why) => Err(why),
     }
 }

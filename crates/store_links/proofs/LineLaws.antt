@@ -1,4 +1,5 @@
 -- What a line says in the text's own names, and what a line of each section does. Assumes nothing.
+use Rattle.std.specs.Prelude.{Err, Ok, Result}
 use Prim.Native.Nat.{ℕ, ◌<◌}
 use mathlib.Core.Path.{◌≡◌, refl, ap, ◌∙◌}
 use mathlib.Core.List.{List, ◌∷◌}
@@ -18,8 +19,6 @@ use Rattle.parse_fields.proofs.TextLaws.{fits-text, name-text, opt-text}
 use Rattle.parse_pipes.specs.Lines.{NamesFit, pump_in, kind_in, KindFits, line_in, LinkAs}
 use Rattle.parse_pipes.specs.declared.LinkNames.{LinkNames}
 use Rattle.parse_pipes.specs.declared.LinkLine.{LinkLine}
-use Rattle.parse_pipes.specs.declared.LinkRead.{LinkRead}
-use Rattle.parse_pipes.specs.declared.LinkRead.TheVariants.{Line, NoLine}
 use Rattle.parse_pipes.proofs.NameLaws.{told-link, few}
 
 -- a line is the text up to its end
@@ -41,14 +40,14 @@ module _ (text : List ℕ) (end : ℕ) where
   pump-text p h = rw (opt-text text end p.head h)
 
   -- a line of PIPES or VALVES, as it was read
-  module _ (o : Read LinkFields) {r : LinkRead} (h : LinkAs (take end text) o r) where
-    pub read_fits : {x : LinkLine} → r ≡ Line x → Fits text x.names.id
+  module _ (o : Read LinkFields) {r : Result LinkLine Reason} (h : LinkAs (take end text) o r) where
+    pub read_fits : {x : LinkLine} → r ≡ Ok x → Fits text x.names.id
     read_fits {x} e = fits-text text end x.names.id (told-link (take end text) o e h).1.id
 
-    pub read-stored : {x : LinkLine} (m : Network) → r ≡ Line x → on_read o (λ l. store_link l m) ≡ store_link (line_in text x) m
+    pub read-stored : {x : LinkLine} (m : Network) → r ≡ Ok x → on_read o (λ l. store_link l m) ≡ store_link (line_in text x) m
     read-stored {x} m e = let k = told-link (take end text) o e h in rw (k.0 ∙ ap good (line-text x k.1 k.2))
 
-    pub read-refused : {why : Reason} (m : Network) → r ≡ NoLine why → on_read o (λ l. store_link l m) ≡ bad why
+    pub read-refused : {why : Reason} (m : Network) → r ≡ Err why → on_read o (λ l. store_link l m) ≡ bad why
     read-refused m e = rw (told-link (take end text) o e h)
 
 -- ---- a pump, whose nodes are looked up before its pairs

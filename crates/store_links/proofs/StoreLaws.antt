@@ -1,4 +1,5 @@
 -- What storing a link makes of the network. Assumes nothing.
+use Rattle.std.specs.Prelude.{Err, None, Ok, Some}
 use Prim.Native.Nat.{ℕ, ◌+◌, ◌*◌, ◌≤◌, ◌<◌}
 use native.Mathlib.Omega.{arith}
 use borrow.Author.Tests.{lt-ltb, le-ltb}
@@ -9,7 +10,6 @@ use lib.ListN.{length, get_or, length-append}
 use lib.Ieee.{Float}
 use Rattle.leaf_fields.specs.Fields.{Name}
 use Rattle.scope.specs.declared.Reason.TheVariants.{Used, NotFound, NoRoom}
-use Rattle.scope.specs.declared.Found.TheVariants.{At, Nowhere}
 use Rattle.scope.specs.declared.Counts.{Counts}
 use Rattle.scope.specs.Sections.{room_links}
 use Rattle.scope.specs.Records.{Network, Link, LinkKind, pipe, pump, valve, lookup, node_ids, link_ids}
@@ -20,10 +20,8 @@ use Rattle.table_rows.specs.Table.{splice}
 use Rattle.scope.specs.Layout.{link_numbers_at, link_numbers_width}
 use Rattle.table_rows.specs.Adding.{link_added}
 use Rattle.table_rows.specs.Holding.{Sits, Holds, After}
-use Rattle.table_rows.specs.declared.Kept.TheVariants.{Stored, Refused}
 use Rattle.table_rows.proofs.HoldLaws.{add-link, count-links}
 use Rattle.store_links.specs.Storing.{ends_at, EndsAs}
-use Rattle.store_links.specs.declared.EndsFound.{EndsFound}
 
 -- ---- the words of a link, one by one
 pub name-pair : (n : Option Name) → get_or (name_words n) 0 0 ∷ get_or (name_words n) 1 0 ∷ [] ≡ name_words n
@@ -40,31 +38,31 @@ pub link_row : (x : Link) {i k : List ℕ} → i ≡ id_words x.id → k ≡ lin
 link_row x ei ek = rw (ei, ek) (ap (λ (r : List ℕ). id_words x.id ++ (x.start ∷ x.end ∷ r)) (kind_row x.kind))
 
 -- ---- looking the nodes up
-pub told-ends : (o : Read Ends) {r r' : EndsFound} → r ≡ r' → EndsAs o r → EndsAs o r'
-told-ends o e h = subst (λ (x : EndsFound). EndsAs o x) e h
+pub told-ends : (o : Read Ends) {r r' : Option (ℕ × ℕ)} → r ≡ r' → EndsAs o r → EndsAs o r'
+told-ends o e h = subst (λ (x : Option (ℕ × ℕ)). EndsAs o x) e h
 
 module _ (start end : Name) (m : Network) where
-  pub no_start : lookup (node_ids m) start.letters ≡ Nowhere → ends_of start end m ≡ bad NotFound
+  pub no_start : lookup (node_ids m) start.letters ≡ None → ends_of start end m ≡ bad NotFound
   unfolding ends_of
   no_start e = rw e
 
-  module _ {a : ℕ} (ea : lookup (node_ids m) start.letters ≡ At a) where
-    pub no_end : lookup (node_ids m) end.letters ≡ Nowhere → ends_of start end m ≡ bad NotFound
+  module _ {a : ℕ} (ea : lookup (node_ids m) start.letters ≡ Some a) where
+    pub no_end : lookup (node_ids m) end.letters ≡ None → ends_of start end m ≡ bad NotFound
     unfolding ends_of
     no_end e = rw (ea, e)
 
-    pub both_ends : {b : ℕ} → lookup (node_ids m) end.letters ≡ At b → ends_of start end m ≡ good (ends_at a b)
+    pub both_ends : {b : ℕ} → lookup (node_ids m) end.letters ≡ Some b → ends_of start end m ≡ good (ends_at a b)
     unfolding ends_of
     both_ends e = rw (ea, e)
 
 -- ---- adding a link whose ends are known
 module _ {text : List ℕ} {m : Network} {s : Counts} {w : List ℕ} {f : List Float} (h : Holds text m s w f) (id : Name) (e : Ends) (k : LinkKind) where
-  pub link-used : {i : ℕ} → lookup (link_ids m) id.letters ≡ At i → After text (add_link id e k m) (Refused Used) w f w f
+  pub link-used : {i : ℕ} → lookup (link_ids m) id.letters ≡ Some i → After text (add_link id e k m) (Err Used) w f w f
   unfolding add_link
   link-used used = rw used (refl, refl, refl)
 
-  module _ (free : lookup (link_ids m) id.letters ≡ Nowhere) where
-    pub links-full : room_links ≤ s.links → After text (add_link id e k m) (Refused NoRoom) w f w f
+  module _ (free : lookup (link_ids m) id.letters ≡ None) where
+    pub links-full : room_links ≤ s.links → After text (add_link id e k m) (Err NoRoom) w f w f
     unfolding add_link
     links-full n = rw (free, le-ltb (length m.links) room_links (omega (arith, n, count-links h))) (refl, refl, refl)
 
@@ -72,7 +70,7 @@ module _ {text : List ℕ} {m : Network} {s : Counts} {w : List ℕ} {f : List F
         → w1 ≡ link_added w s.links (new_link id e k)
         → f1 ≡ splice f (link_numbers_at + s.links * link_numbers_width) (link_numbers (new_link id e k))
         → After text (add_link id e k m)
-        (Stored (record { nodes = s.nodes; links = s.links + 1; curves = s.curves; points = s.points; patterns = s.patterns; multipliers = s.multipliers; demands = s.demands; rules = s.rules; clauses = s.clauses }))
+        (Ok (record { nodes = s.nodes; links = s.links + 1; curves = s.curves; points = s.points; patterns = s.patterns; multipliers = s.multipliers; demands = s.demands; rules = s.rules; clauses = s.clauses }))
         w f w1 f1
     unfolding add_link
     link-stored sits n ew ef =

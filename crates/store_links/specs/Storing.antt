@@ -1,5 +1,5 @@
 -- A link as it is stored. Assumes nothing.
-use Rattle.std.specs.Prelude.{ℕ, ◌≡◌, List}
+use Rattle.std.specs.Prelude.{ℕ, ◌≡◌, List, None, Option, Some}
 use Rattle.leaf_fields.specs.Fields.{Name}
 use Rattle.scope.specs.declared.LinkKind.{LinkKind}
 use Rattle.scope.specs.declared.Reason.TheVariants.{NotFound}
@@ -7,16 +7,14 @@ use Rattle.scope.specs.Records.{Link}
 use Rattle.scope.specs.Values.{Read, good, bad}
 use Rattle.scope.specs.Links.{Ends, new_link}
 use Rattle.parse_pipes.specs.Lines.{kind_in}
-use Rattle.store_links.specs.declared.EndsFound.{EndsFound}
-use Rattle.store_links.specs.declared.EndsFound.TheVariants.{Both, NotBoth}
 
 -- ---- the places of the two nodes
 abbrev pub ends_at : ℕ → ℕ → Ends
 ends_at from to = record { start = from; end = to }
 
-abbrev pub EndsAs : Read Ends → EndsFound → Type 0
-EndsAs o (Both from to) = o ≡ good (ends_at from to)
-EndsAs o NotBoth = o ≡ bad NotFound
+abbrev pub EndsAs : Read Ends → Option (ℕ × ℕ) → Type 0
+EndsAs o (Some (from, to)) = o ≡ good (ends_at from to)
+EndsAs o None = o ≡ bad NotFound
 
 -- ---- the link
 abbrev pub link_in : List ℕ → Name → ℕ → ℕ → LinkKind → Link

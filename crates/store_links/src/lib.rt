@@ -16,32 +16,23 @@ ghost use Rattle.parse_pipes.specs.Lines.{kind_in, line_in, LinkAs};
 ghost use Rattle.store_links.specs.Storing.{link_in, ends_at, EndsAs};
 
 use leaf_fields::Span;
-use parse_pipes::{LinkLine, LinkNames, LinkRead, NamesRead};
-use parse_pumps::PumpRead;
-use scope::{Counts, Found, Kind, LinkKind, Reason};
-use table_rows::Kept;
+use parse_pipes::{LinkLine, LinkNames};
+use scope::{Counts, Kind, LinkKind, Reason};
 
-// The places of the two nodes.
-#[derive(Clone, Copy)]
-pub enum EndsFound {
-    Both(usize, usize),
-    NotBoth,
-}
-
-fn find_ends(text: &[u8], names: LinkNames, nodes: usize, words: &[u64]) -> EndsFound
+fn find_ends(text: &[u8], names: LinkNames, nodes: usize, words: &[u64]) -> Option<(usize, usize)>
     requires { (m : Network) × Words text.now m words.now × (nodes ≡ length m.nodes) }
     ensures { (m : Network) → Words text.now m words.now → nodes ≡ length m.nodes
         → EndsAs (ends_of (name_in text.now names.start) (name_in text.now names.end) m) result }
 {
     let first = table_find::node_named(text, words, nodes, names.start);
-    let Found::At(from) = first else {
-        return EndsFound::NotBoth;
+    let Some(from) = first else {
+        return None;
     };
     let second = table_find::node_named(text, words, nodes, names.end);
-    let Found::At(to) = second else {
-        return EndsFound::NotBoth;
+    let Some(to) = second else {
+        return None;
     };
-    EndsFound::Both(from, to)
+    Some((from, to))
 }
 
 // The kind; a pipe's status or a valve's type; a pump's or a valve's curve.
@@ -144,7 +135,7 @@ fn add_link(
     s: Counts,
     words: &mut [u64],
     numbers: &mut [f64],
-) -> Kept
+) -> Result<Counts, Reason>
     requires { Sound text.now s words.old numbers.old × Fits text.now id }
     ensures { (m : Network) → Holds text.now m s words.old numbers.old
         → After text.now (add_link (name_in text.now id) (ends_at from to) (kind_in text.now kind) m) result words.old
@@ -160,16 +151,16 @@ fn add_link(
         who[table_rows::ID_KEY],
         leaf_fields::letters_of(text, id),
     );
-    if let Found::At(_) = found {
-        return Kept::Refused(Reason::Used);
+    if let Some(_) = found {
+        return Err(Reason::Used);
     }
     if n < table_rows::LINKS_MOST {
         put_link(text, words, numbers, n, who, from, to, kind);
         let mut t = s;
         t.links = n + 1;
-        return Kept::Stored(t);
+        return Ok(t);
     }
-    Kept::Refused(Reason::NoRoom)
+    Err(Reason::NoRoom)
 }
 
 // The nodes of a pipe or a valve are looked up after all its fields.
@@ -179,7 +170,7 @@ fn store_link(
     s: Counts,
     words: &mut [u64],
     numbers: &mut [f64],
-) -> Kept
+) -> Result<Counts, Reason>
     requires { Sound text.now s words.old numbers.old × Fits text.now line.names.id }
     ensures { (m : Network) → Holds text.now m s words.old numbers.old
         → After text.now (store_link (line_in text.now line) m) result words.old numbers.old words.new numbers.new }
@@ -187,8 +178,8 @@ fn store_link(
     let names = line.names;
     let kind = line.kind;
     let ends = find_ends(text, names, s.nodes, words);
-    let EndsFound::Both(from, to) = ends else {
-        return Kept::Refused(Reason::NotFound);
+    let Some((from, to)) = ends else {
+        return Err(Reason::NotFound);
     };
     add_link(text, names.id, from, to, kind, s, words, numbers)
 }
@@ -197,19 +188,19 @@ fn store_link(
 fn store_read(
     text: &[u8],
     end: usize,
-    read: LinkRead,
+    read: Result<LinkLine, Reason>,
     s: Counts,
     words: &mut [u64],
     numbers: &mut [f64],
-) -> Kept
+) -> Result<Counts, Reason>
     requires { Sound text.now s words.old numbers.old × ((o : Read LinkFields) × LinkAs (take end text.now) o read) }
     ensures { (m : Network) → Holds text.now m s words.old numbers.old
         → (o : Read LinkFields) → LinkAs (take end text.now) o read
         → After text.now (on_read o (λ l. store_link l m)) result words.old numbers.old words.new numbers.new }
 {
     match read {
-        LinkRead::Line(line) => store_link(text, line, s, words, numbers),
-        LinkRead::NoLine(why) => Kept::Refused(why),
+        Ok(line) => store_link(text, line, s, words, numbers),
+        Err(why) => Err(why),
     }
 }
 
@@ -221,7 +212,7 @@ pub fn pipe_line(
     s: Counts,
     words: &mut [u64],
     numbers: &mut [f64],
-) -> Kept
+) -> Result<Counts, Reason>
     requires { Sound text.now s words.old numbers.old × (end ≤ length text.now) }
     ensures { (m : Network) → Holds text.now m s words.old numbers.old
         → After text.now (pipe_step (fields_at (take end text.now) at) m) result words.old numbers.old words.new numbers.new }
@@ -238,7 +229,7 @@ pub fn valve_line(
     s: Counts,
     words: &mut [u64],
     numbers: &mut [f64],
-) -> Kept
+) -> Result<Counts, Reason>
     requires { Sound text.now s words.old numbers.old × (end ≤ length text.now) }
     ensures { (m : Network) → Holds text.now m s words.old numbers.old
         → After text.now (valve_step (fields_at (take end text.now) at) m) result words.old numbers.old words.new numbers.new }
@@ -255,25 +246,25 @@ pub fn pump_line(
     s: Counts,
     words: &mut [u64],
     numbers: &mut [f64],
-) -> Kept
+) -> Result<Counts, Reason>
     requires { Sound text.now s words.old numbers.old × (end ≤ length text.now) }
     ensures { (m : Network) → Holds text.now m s words.old numbers.old
         → After text.now (pump_step (fields_at (take end text.now) at) m) result words.old numbers.old words.new numbers.new }
 {
     let three = parse_pipes::read_names(&text[..end], at);
-    let NamesRead::Names(names) = three else {
-        return Kept::Refused(Reason::Missing);
+    let Ok(names) = three else {
+        return Err(Reason::Missing);
     };
     let ends = find_ends(text, names, s.nodes, words);
-    let EndsFound::Both(from, to) = ends else {
-        return Kept::Refused(Reason::NotFound);
+    let Some((from, to)) = ends else {
+        return Err(Reason::NotFound);
     };
     let read = parse_pumps::read_pairs(&text[..end], names.end.end);
     match read {
-        PumpRead::Pairs(p) => {
+        Ok(p) => {
             let kind = LinkKind::Pump(p);
             add_link(text, names.id, from, to, kind, s, words, numbers)
         }
-        PumpRead::NoPump(why) => Kept::Refused(why),
+        Err(why) => Err(why),
     }
 }

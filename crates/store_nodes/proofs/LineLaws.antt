@@ -1,4 +1,6 @@
 -- What a line of JUNCTIONS, RESERVOIRS or TANKS does, from what was read of it. Assumes nothing.
+use Rattle.parse_nodes.specs.declared.JunctionLine.{JunctionLine}
+use Rattle.std.specs.Prelude.{Err, Ok, Result}
 use Prim.Native.Nat.{ℕ}
 use mathlib.Core.Path.{◌≡◌, ap, ◌∙◌, subst}
 use mathlib.Core.List.{List}
@@ -10,18 +12,16 @@ use Rattle.scope.specs.Values.{Read, good, bad, on_read}
 use Rattle.scope.specs.Nodes.{JunctionFields, junction_of, add_junction, junction_step, add_node}
 use Rattle.parse_fields.proofs.TextLaws.{fits-text, may-fit-text, name-text, opt-text}
 use Rattle.parse_nodes.specs.Lines.{junction_in, JunctionAs, reservoir_in, basin_in, NodeAs}
-use Rattle.parse_nodes.specs.declared.JunctionRead.{JunctionRead}
-use Rattle.parse_nodes.specs.declared.JunctionRead.TheVariants.{Junction, NoJunction}
 use Rattle.parse_nodes.specs.declared.NodeRead.{NodeRead}
 use Rattle.parse_nodes.specs.declared.NodeRead.TheVariants.{Reservoir, Basin, NoNode}
 
 -- ---- what was read of a line, in the text's own names
 module _ (text : List ℕ) (end : ℕ) where
-  junction-as-text : (o : Read JunctionFields) (r : JunctionRead) → JunctionAs (take end text) o r → JunctionAs text o r
-  junction-as-text o (Junction j) a =
+  junction-as-text : (o : Read JunctionFields) (r : Result JunctionLine Reason) → JunctionAs (take end text) o r → JunctionAs text o r
+  junction-as-text o (Ok j) a =
       let e : junction_in (take end text) j ≡ junction_in text j = rw (name-text text end j.id a.1, opt-text text end j.pattern a.2) in
       (a.0 ∙ ap good e, fits-text text end j.id a.1, may-fit-text text end j.pattern a.2)
-  junction-as-text o (NoJunction why) a = a
+  junction-as-text o (Err why) a = a
 
   pub node-as-text : (o : Read Node) (r : NodeRead) → NodeAs (take end text) o r → NodeAs text o r
   node-as-text o (Reservoir r) a =
@@ -33,8 +33,8 @@ module _ (text : List ℕ) (end : ℕ) where
   node-as-text o (NoNode why) a = a
 
   -- with what the code was told of it
-  pub junction-told : (o : Read JunctionFields) {r q : JunctionRead} → r ≡ q → JunctionAs (take end text) o r → JunctionAs text o q
-  junction-told o {r} {q} e a = subst (λ (x : JunctionRead). JunctionAs text o x) e (junction-as-text o r a)
+  pub junction-told : (o : Read JunctionFields) {r q : Result JunctionLine Reason} → r ≡ q → JunctionAs (take end text) o r → JunctionAs text o q
+  junction-told o {r} {q} e a = subst (λ (x : Result JunctionLine Reason). JunctionAs text o x) e (junction-as-text o r a)
 
 pub node-told : (text : List ℕ) (o : Read Node) {r q : NodeRead} → r ≡ q → NodeAs text o r → NodeAs text o q
 node-told text o e a = subst (λ (x : NodeRead). NodeAs text o x) e a

@@ -1,4 +1,5 @@
 -- What storing a node makes of the network. Assumes nothing.
+use Rattle.std.specs.Prelude.{Err, None, Ok, Some}
 use Prim.Native.Nat.{ℕ, ◌+◌, ◌*◌, ◌%◌, ◌≤◌, ◌<◌}
 use native.Mathlib.Omega.{arith}
 use borrow.Author.Tests.{lt-ltb, le-ltb}
@@ -9,9 +10,7 @@ use lib.ListN.{length, get_or, length-append}
 use lib.Ieee.{Float}
 use Rattle.leaf_fields.specs.Fields.{Name, name_in, part, Fits, opt_in, MayFit}
 use Rattle.leaf_fields.specs.declared.Span.{Span}
-use Rattle.leaf_fields.specs.declared.Field.{Field}
 use Rattle.scope.specs.declared.Reason.TheVariants.{Used, NoRoom}
-use Rattle.scope.specs.declared.Found.TheVariants.{At, Nowhere}
 use Rattle.scope.specs.declared.Counts.{Counts}
 use Rattle.scope.specs.declared.Tank as coded
 use Rattle.scope.specs.Records.{Network, Node, NodeKind, reservoir, tank, zero_f, lookup, node_ids}
@@ -22,7 +21,6 @@ use Rattle.scope.specs.Layout.{nodes_at, nodes_width, node_slots_at, node_number
 use Rattle.scope.specs.Sections.{room_nodes, room_demands}
 use Rattle.table_rows.specs.Adding.{node_added, demand_added}
 use Rattle.table_rows.specs.Holding.{Holds, After}
-use Rattle.table_rows.specs.declared.Kept.TheVariants.{Stored, Refused}
 use Rattle.table_rows.proofs.HoldLaws.{sits-span, sits-field, add-node, add-demand, count-nodes, count-demands}
 use Rattle.parse_nodes.specs.Lines.{junction_in, tank_in}
 use Rattle.store_nodes.specs.Storing.{new_node, new_words, own_words, KindAs}
@@ -50,20 +48,20 @@ pub tank-kind : (text : List ℕ) (t : coded.Tank) (over : ℕ) → over ≡ fla
 tank-kind text t over e = record { words = rw e; numbers = λ id. refl; pattern = tt }
 
 module _ {text : List ℕ} {m : Network} {s : Counts} {w : List ℕ} {f : List Float} (h : Holds text m s w f) (id : Span) (k : NodeKind) where
-  pub node-used : {i : ℕ} → lookup (node_ids m) (part id.at id.end text) ≡ At i → After text (add_node (new_node (name_in text id) k) m) (Refused Used) w f w f
+  pub node-used : {i : ℕ} → lookup (node_ids m) (part id.at id.end text) ≡ Some i → After text (add_node (new_node (name_in text id) k) m) (Err Used) w f w f
   unfolding add_node
   node-used e = rw e (refl, refl, refl)
 
-  module _ (free : lookup (node_ids m) (part id.at id.end text) ≡ Nowhere) where
-    pub node-full : room_nodes ≤ s.nodes → After text (add_node (new_node (name_in text id) k) m) (Refused NoRoom) w f w f
+  module _ (free : lookup (node_ids m) (part id.at id.end text) ≡ None) where
+    pub node-full : room_nodes ≤ s.nodes → After text (add_node (new_node (name_in text id) k) m) (Err NoRoom) w f w f
     unfolding add_node
     node-full n = rw (free, le-ltb (length m.nodes) room_nodes (omega (arith, n, count-nodes h))) (refl, refl, refl)
 
-    pub node-stored : {w1 : List ℕ} {f1 : List Float} (kind : ℕ) (name : Field) (last : ℕ) (amounts : List Float) → Fits text id → KindAs text k kind name last amounts → s.nodes < room_nodes
+    pub node-stored : {w1 : List ℕ} {f1 : List Float} (kind : ℕ) (name : Option Span) (last : ℕ) (amounts : List Float) → Fits text id → KindAs text k kind name last amounts → s.nodes < room_nodes
         → w1 ≡ marked (splice w (nodes_at + s.nodes * nodes_width) (new_words (name_in text id) kind (opt_in text name) last))
         (node_slots_at + node_slot (new_node (name_in text id) k)) (s.nodes + 1) → f1 ≡ splice f (node_numbers_at + s.nodes * node_numbers_width) amounts
         → After text (add_node (new_node (name_in text id) k) m)
-        (Stored (record { nodes = s.nodes + 1; links = s.links; curves = s.curves; points = s.points; patterns = s.patterns; multipliers = s.multipliers; demands = s.demands; rules = s.rules; clauses = s.clauses }))
+        (Ok (record { nodes = s.nodes + 1; links = s.links; curves = s.curves; points = s.points; patterns = s.patterns; multipliers = s.multipliers; demands = s.demands; rules = s.rules; clauses = s.clauses }))
         w f w1 f1
     unfolding add_node
     node-stored kind name last amounts fit a n ew ef =
@@ -75,16 +73,16 @@ module _ {text : List ℕ} {m : Network} {s : Counts} {w : List ℕ} {f : List F
 
 -- ---- a junction
 module _ {text : List ℕ} {m : Network} {s : Counts} {w : List ℕ} {f : List Float} (h : Holds text m s w f) (j : JunctionLine) where
-  pub junction-used : {i : ℕ} → lookup (node_ids m) (part j.id.at j.id.end text) ≡ At i → After text (add_junction (junction_in text j) m) (Refused Used) w f w f
+  pub junction-used : {i : ℕ} → lookup (node_ids m) (part j.id.at j.id.end text) ≡ Some i → After text (add_junction (junction_in text j) m) (Err Used) w f w f
   unfolding add_junction
   junction-used e = rw e (refl, refl, refl)
 
-  module _ (free : lookup (node_ids m) (part j.id.at j.id.end text) ≡ Nowhere) where
-    pub nodes-full : room_nodes ≤ s.nodes → After text (add_junction (junction_in text j) m) (Refused NoRoom) w f w f
+  module _ (free : lookup (node_ids m) (part j.id.at j.id.end text) ≡ None) where
+    pub nodes-full : room_nodes ≤ s.nodes → After text (add_junction (junction_in text j) m) (Err NoRoom) w f w f
     unfolding add_junction
     nodes-full n = rw (free, le-ltb (length m.nodes) room_nodes (omega (arith, n, count-nodes h))) (refl, refl, refl)
 
-    pub demands-full : s.nodes < room_nodes → room_demands ≤ s.demands → After text (add_junction (junction_in text j) m) (Refused NoRoom) w f w f
+    pub demands-full : s.nodes < room_nodes → room_demands ≤ s.demands → After text (add_junction (junction_in text j) m) (Err NoRoom) w f w f
     unfolding add_junction
     demands-full n d =
         rw (free, lt-ltb (length m.nodes) room_nodes (omega (arith, n, count-nodes h)), le-ltb (length m.demands) room_demands (omega (arith, d, count-demands h)))
@@ -95,7 +93,7 @@ module _ {text : List ℕ} {m : Network} {s : Counts} {w : List ℕ} {f : List F
         → f1 ≡ splice (splice f (node_numbers_at + s.nodes * node_numbers_width) (node_numbers (junction_node (junction_in text j)))) (demand_numbers_at + s.demands)
         (demand_numbers (junction_demand s.nodes (junction_in text j)))
         → After text (add_junction (junction_in text j) m)
-        (Stored (record { nodes = s.nodes + 1; links = s.links; curves = s.curves; points = s.points; patterns = s.patterns; multipliers = s.multipliers; demands = s.demands + 1; rules = s.rules; clauses = s.clauses }))
+        (Ok (record { nodes = s.nodes + 1; links = s.links; curves = s.curves; points = s.points; patterns = s.patterns; multipliers = s.multipliers; demands = s.demands + 1; rules = s.rules; clauses = s.clauses }))
         w f w1 f1
     unfolding add_junction
     junction-stored fit may n d ew ef =

@@ -1,15 +1,14 @@
 -- A node as it is stored. Assumes nothing.
-use Rattle.std.specs.Prelude.{ℕ, ◌≡◌, List, [], ◌∷◌, ◌++◌, Float}
-use Rattle.std.proofs.Math.Option.{Option, none}
+use Rattle.leaf_fields.specs.declared.Span.{Span}
+use Rattle.std.specs.Prelude.{ℕ, ◌≡◌, List, [], ◌∷◌, ◌++◌, Float, None, Option}
 use Rattle.leaf_fields.specs.Fields.{Name, opt_in}
-use Rattle.leaf_fields.specs.declared.Field.{Field}
 use Rattle.scope.specs.Records.{Node, NodeKind}
 use Rattle.scope.specs.Tables.{id_words, name_words, kind_words, node_numbers}
 use Rattle.table_rows.specs.Holding.{SitsOr, pattern_in}
 
 -- a node before its line of COORDINATES
 abbrev pub new_node : Name → NodeKind → Node
-new_node id k = record { id = id; kind = k; place = none }
+new_node id k = record { id = id; kind = k; place = None }
 
 -- its words: the number of its kind; a reservoir's pattern or a tank's curve; what its kind keeps last; no place
 abbrev pub new_words : Name → ℕ → Option Name → ℕ → List ℕ
@@ -20,7 +19,7 @@ abbrev pub own_words : ℕ → Option Name → List ℕ
 own_words node pattern = node ∷ 1 ∷ name_words pattern ++ (0 ∷ [])
 
 -- a kind, as its words and the numbers of a new node of it; its pattern stands in the text
-pub record KindAs (text : List ℕ) (k : NodeKind) (kind : ℕ) (name : Field) (last : ℕ) (amounts : List Float) : Type 0 where
+pub record KindAs (text : List ℕ) (k : NodeKind) (kind : ℕ) (name : Option Span) (last : ℕ) (amounts : List Float) : Type 0 where
   pub words : kind_words k ≡ kind ∷ name_words (opt_in text name) ++ (last ∷ [])
   pub numbers : (id : Name) → node_numbers (new_node id k) ≡ amounts
   pub pattern : SitsOr text (pattern_in k)

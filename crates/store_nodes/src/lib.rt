@@ -16,10 +16,9 @@ ghost use Rattle.table_rows.specs.Holding.{Holds, Sound, After};
 ghost use Rattle.parse_nodes.specs.Lines.{junction_in, reservoir_in, tank_in, NodeAs};
 ghost use Rattle.store_nodes.specs.Storing.{new_node, new_words, own_words, KindAs};
 
-use leaf_fields::{Field, Span};
-use parse_nodes::{JunctionLine, JunctionRead, NodeRead, ReservoirLine};
-use scope::{Counts, Found, Kind, Reason, Tank};
-use table_rows::Kept;
+use leaf_fields::{Span};
+use parse_nodes::{JunctionLine, NodeRead, ReservoirLine};
+use scope::{Counts, Kind, Reason, Tank};
 
 // ---- storing them
 
@@ -29,7 +28,7 @@ fn put_node(
     i: usize,
     who: [u64; table_rows::ID_WIDTH],
     kind: u64,
-    name: Field,
+    name: Option<Span>,
     last: u64,
     words: &mut [u64],
 )
@@ -58,7 +57,7 @@ fn put_node(
 }
 
 // The words of demand `d`: node `n` has it from its own line.
-fn put_demand(text: &[u8], d: usize, n: usize, pattern: Field, words: &mut [u64])
+fn put_demand(text: &[u8], d: usize, n: usize, pattern: Option<Span>, words: &mut [u64])
     requires { (d < room_demands) × (length words.old ≡ record_words) }
     ensures { words.new ≡ marked (splice words.old (demands_at + d * demands_width) (own_words n (opt_in text.now pattern)))
         (demand_slots_at + n % demand_slots_long) (d + 1) }
@@ -104,7 +103,7 @@ fn put_junction(
         n,
         who,
         table_codes::JUNCTION,
-        Field::Nothing,
+        None,
         disabled,
         words,
     );
@@ -123,7 +122,7 @@ fn store_junction(
     s: Counts,
     words: &mut [u64],
     numbers: &mut [f64],
-) -> Kept
+) -> Result<Counts, Reason>
     requires { Sound text.now s words.old numbers.old }
     ensures { Fits text.now j.id → MayFit text.now j.pattern → (m : Network) → Holds text.now m s words.old numbers.old
         → After text.now (add_junction (junction_in text.now j) m) result words.old numbers.old words.new numbers.new }
@@ -139,8 +138,8 @@ fn store_junction(
         who[table_rows::ID_KEY],
         leaf_fields::letters_of(text, j.id),
     );
-    if let Found::At(_) = found {
-        return Kept::Refused(Reason::Used);
+    if let Some(_) = found {
+        return Err(Reason::Used);
     }
     if n < table_rows::NODES_MOST {
         if d < table_rows::DEMANDS_MOST {
@@ -148,10 +147,10 @@ fn store_junction(
             let mut t = s;
             t.nodes = n + 1;
             t.demands = d + 1;
-            return Kept::Stored(t);
+            return Ok(t);
         }
     }
-    Kept::Refused(Reason::NoRoom)
+    Err(Reason::NoRoom)
 }
 
 // A reservoir or a tank: what its kind keeps stands in the words and the numbers that are given.
@@ -159,13 +158,13 @@ fn store_node(
     text: &[u8],
     id: Span,
     kind: u64,
-    name: Field,
+    name: Option<Span>,
     last: u64,
     amounts: &[f64],
     s: Counts,
     words: &mut [u64],
     numbers: &mut [f64],
-) -> Kept
+) -> Result<Counts, Reason>
     requires { Sound text.now s words.old numbers.old × (length amounts.now ≡ node_numbers_width) }
     ensures { Fits text.now id → (k : NodeKind) → KindAs text.now k kind name last amounts.now → (m : Network)
         → Holds text.now m s words.old numbers.old
@@ -181,8 +180,8 @@ fn store_node(
         who[table_rows::ID_KEY],
         leaf_fields::letters_of(text, id),
     );
-    if let Found::At(_) = found {
-        return Kept::Refused(Reason::Used);
+    if let Some(_) = found {
+        return Err(Reason::Used);
     }
     if n < table_rows::NODES_MOST {
         put_node(text, n, who, kind, name, last, words);
@@ -193,9 +192,9 @@ fn store_node(
         );
         let mut t = s;
         t.nodes = n + 1;
-        return Kept::Stored(t);
+        return Ok(t);
     }
-    Kept::Refused(Reason::NoRoom)
+    Err(Reason::NoRoom)
 }
 
 fn store_reservoir(
@@ -204,7 +203,7 @@ fn store_reservoir(
     s: Counts,
     words: &mut [u64],
     numbers: &mut [f64],
-) -> Kept
+) -> Result<Counts, Reason>
     requires { Sound text.now s words.old numbers.old }
     ensures { Fits text.now r.id → MayFit text.now r.pattern → (m : Network) → Holds text.now m s words.old numbers.old
         → After text.now (add_node (reservoir_in text.now r) m) result words.old numbers.old words.new numbers.new }
@@ -231,7 +230,7 @@ fn store_tank(
     s: Counts,
     words: &mut [u64],
     numbers: &mut [f64],
-) -> Kept
+) -> Result<Counts, Reason>
     requires { Sound text.now s words.old numbers.old }
     ensures { Fits text.now id → (m : Network) → Holds text.now m s words.old numbers.old
         → After text.now (add_node (tank_node (name_in text.now id) (tank_in text.now tank)) m) result words.old
@@ -268,7 +267,7 @@ fn store_read(
     s: Counts,
     words: &mut [u64],
     numbers: &mut [f64],
-) -> Kept
+) -> Result<Counts, Reason>
     requires { Sound text.now s words.old numbers.old }
     ensures { (o : Read Node) → NodeAs text.now o read → (m : Network) → Holds text.now m s words.old numbers.old
         → After text.now (on_read o (λ n. add_node n m)) result words.old numbers.old words.new numbers.new }
@@ -276,7 +275,7 @@ fn store_read(
     match read {
         NodeRead::Reservoir(r) => store_reservoir(text, r, s, words, numbers),
         NodeRead::Basin(t) => store_tank(text, t.id, t.tank, s, words, numbers),
-        NodeRead::NoNode(why) => Kept::Refused(why),
+        NodeRead::NoNode(why) => Err(why),
     }
 }
 
@@ -290,15 +289,15 @@ pub fn junction_line(
     s: Counts,
     words: &mut [u64],
     numbers: &mut [f64],
-) -> Kept
+) -> Result<Counts, Reason>
     requires { Sound text.now s words.old numbers.old × (end ≤ length text.now) }
     ensures { (m : Network) → Holds text.now m s words.old numbers.old
         → After text.now (junction_step (fields_at (take end text.now) at) m) result words.old numbers.old words.new numbers.new }
 {
     let read = parse_nodes::read_junction(&text[..end], at);
     match read {
-        JunctionRead::Junction(j) => store_junction(text, j, s, words, numbers),
-        JunctionRead::NoJunction(why) => Kept::Refused(why),
+        Ok(j) => store_junction(text, j, s, words, numbers),
+        Err(why) => Err(why),
     }
 }
 
@@ -310,7 +309,7 @@ pub fn reservoir_line(
     s: Counts,
     words: &mut [u64],
     numbers: &mut [f64],
-) -> Kept
+) -> Result<Counts, Reason>
     requires { Sound text.now s words.old numbers.old × (end ≤ length text.now) }
     ensures { (m : Network) → Holds text.now m s words.old numbers.old
         → After text.now (reservoir_step (fields_at (take end text.now) at) m) result words.old numbers.old words.new numbers.new }
@@ -327,7 +326,7 @@ pub fn tank_line(
     s: Counts,
     words: &mut [u64],
     numbers: &mut [f64],
-) -> Kept
+) -> Result<Counts, Reason>
     requires { Sound text.now s words.old numbers.old × (end ≤ length text.now) }
     ensures { (m : Network) → Holds text.now m s words.old numbers.old
         → After text.now (tank_step (fields_at (take end text.now) at) m) result words.old numbers.old words.new numbers.new }

@@ -1,4 +1,6 @@
 -- Loops that store the multipliers of a line. Assumes nothing.
+use Rattle.leaf_decimals.specs.declared.NumberError.{NumberError}
+use Rattle.std.specs.Prelude.{Err, Ok, Result}
 use Prim.Native.Nat.{ℕ, suc, ◌+◌, ◌≤◌, ◌<◌}
 use native.Mathlib.Omega.{arith}
 use native.Mathlib.Numerals.{add-one}
@@ -8,8 +10,7 @@ use lib.ListN.{length, take, drop, set, get_or, replicate, length-append, length
 use lib.Seq.{paste, paste-zero, paste-suc, take_all, take_at, drop_at, drop-drop, drop-cons, length-take-le}
 use lib.Ieee.{Float, nan}
 use Rattle.leaf_decimals.specs.Numbers.{number_of}
-use Rattle.leaf_decimals.specs.declared.Number as D
-use Rattle.leaf_decimals.specs.declared.Number.TheVariants.{Value, Malformed, Beyond}
+use Rattle.leaf_decimals.specs.declared.NumberError.TheVariants.{Malformed, Beyond}
 use Rattle.leaf_fields.specs.Fields.{Name}
 use Rattle.scope.specs.Sections.{room_multipliers}
 use Rattle.scope.specs.declared.Reason.{Reason}
@@ -72,10 +73,10 @@ module _ {xs : List Float} {k pattern : ℕ} {w0 w : List ℕ} {f0 f : List Floa
       )
 
 -- what a taken number says of the fields and of the multipliers
-as-took : (n : D.Number) (fs gs : List Name) (x : Float) → as_number n fs ≡ took x gs → (as_number n fs ≡ took x fs) × (fs ≡ gs)
-as-took (Value y) fs gs x e = let a : y ≡ x = cc in let b : fs ≡ gs = cc in (rw a, b)
-as-took Malformed fs gs x e = absurd (let z : ◌≡◌ {A = ℕ} 0 1 = cc in omega arith)
-as-took Beyond fs gs x e = absurd (let z : ◌≡◌ {A = ℕ} 0 1 = cc in omega arith)
+as-took : (n : Result Float NumberError) (fs gs : List Name) (x : Float) → as_number n fs ≡ took x gs → (as_number n fs ≡ took x fs) × (fs ≡ gs)
+as-took (Ok y) fs gs x e = let a : y ≡ x = cc in let b : fs ≡ gs = cc in (rw a, b)
+as-took (Err Malformed) fs gs x e = absurd (let z : ◌≡◌ {A = ℕ} 0 1 = cc in omega arith)
+as-took (Err Beyond) fs gs x e = absurd (let z : ◌≡◌ {A = ℕ} 0 1 = cc in omega arith)
 
 pub took_one : (fs gs : List Name) (x : Float) → number_from fs ≡ took x gs
     → (length fs ≡ suc (length gs)) × (multipliers_of fs ≡ on_read (multipliers_of gs) (λ xs. good (x ∷ xs)))

@@ -12,10 +12,8 @@ ghost use Rattle.scope.specs.Layout.{multipliers_at, multiplier_numbers_at, reco
 ghost use Rattle.table_rows.specs.Holding.{Holds, Sound, After};
 ghost use Rattle.parse_series.specs.Lines.{Multipliers};
 
-use parse_fields::TookNumber;
-use parse_series::{PatternLine, PatternRead};
-use scope::{Counts, Found, Kind, Reason};
-use table_rows::Kept;
+use parse_series::{PatternLine};
+use scope::{Counts, Kind, Reason};
 
 // The numbers from `at` on as multipliers of a pattern, from multiplier number `k` on.
 fn put_rest(l: &[u8], at: usize, k: usize, pattern: usize, words: &mut [u64], numbers: &mut [f64])
@@ -29,7 +27,7 @@ fn put_rest(l: &[u8], at: usize, k: usize, pattern: usize, words: &mut [u64], nu
     let mut p = at;
     loop {
         let t = parse_fields::take_number(l, p);
-        let TookNumber::Number(x, next) = t else {
+        let Ok((x, next)) = t else {
             return;
         };
         words[table_rows::MULTIPLIERS_AT + i] = pattern as u64;
@@ -86,7 +84,7 @@ fn store_pattern(
     s: Counts,
     words: &mut [u64],
     numbers: &mut [f64],
-) -> Kept
+) -> Result<Counts, Reason>
     requires { Sound text.now s words.old numbers.old × Fits text.now p.id × ((xs : List Float) × Multipliers line.now first.now p.count p.rest xs) }
     ensures { (m : Network) (xs : List Float) → Holds text.now m s words.old numbers.old
         → Multipliers line.now first.now p.count p.rest xs
@@ -98,16 +96,16 @@ fn store_pattern(
     let k = s.multipliers;
     let found = table_find::find_at(text, words, Kind::Patterns, n, id);
     if table_rows::MULTIPLIERS_MOST < k + count {
-        return Kept::Refused(Reason::NoRoom);
+        return Err(Reason::NoRoom);
     }
     let mut t = s;
     t.multipliers = k + count;
     match found {
-        Found::At(i) => {
+        Some(i) => {
             put_multipliers(line, first, p, k, i, words, numbers);
-            Kept::Stored(t)
+            Ok(t)
         }
-        Found::Nowhere => {
+        None => {
             if n < table_rows::PATTERNS_MOST {
                 table_rows::put_id(
                     text,
@@ -119,9 +117,9 @@ fn store_pattern(
                 );
                 put_multipliers(line, first, p, k, n, words, numbers);
                 t.patterns = n + 1;
-                return Kept::Stored(t);
+                return Ok(t);
             }
-            Kept::Refused(Reason::NoRoom)
+            Err(Reason::NoRoom)
         }
     }
 }
@@ -134,7 +132,7 @@ pub fn pattern_line(
     s: Counts,
     words: &mut [u64],
     numbers: &mut [f64],
-) -> Kept
+) -> Result<Counts, Reason>
     requires { Sound text.now s words.old numbers.old × (end ≤ length text.now) }
     ensures { (m : Network) → Holds text.now m s words.old numbers.old
         → After text.now (pattern_step (fields_at (take end text.now) at) m) result words.old numbers.old words.new numbers.new }
@@ -143,7 +141,7 @@ pub fn pattern_line(
     let mut first = [0.0; 8];
     let read = parse_series::read_pattern(line, at, &mut first);
     match read {
-        PatternRead::Pattern(p) => store_pattern(text, line, &first, p, s, words, numbers),
-        PatternRead::NoPattern(why) => Kept::Refused(why),
+        Ok(p) => store_pattern(text, line, &first, p, s, words, numbers),
+        Err(why) => Err(why),
     }
 }

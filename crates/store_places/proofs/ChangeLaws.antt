@@ -1,4 +1,5 @@
 -- What a line of EMITTERS or COORDINATES makes of the network: a node is changed in its place. Assumes nothing.
+use Rattle.std.specs.Prelude.{Err, None, Ok, Some}
 use Prim.Native.Nat.{ℕ, ◌+◌, ◌*◌, ◌<◌}
 use native.Mathlib.Omega.{arith}
 use mathlib.Core.Path.{◌≡◌, refl, sym, ap, ◌∙◌}
@@ -10,7 +11,6 @@ use lib.Ieee.{Float}
 use Rattle.leaf_fields.specs.Fields.{Name, name_in, part}
 use Rattle.leaf_fields.specs.declared.Span.{Span}
 use Rattle.scope.specs.declared.Reason.TheVariants.{NotFound, WrongKind}
-use Rattle.scope.specs.declared.Found.TheVariants.{At, Nowhere}
 use Rattle.scope.specs.declared.Counts.{Counts}
 use Rattle.scope.specs.Records.{Network, Node, NodeKind, junction, reservoir, tank, Junction, Place, no_node, lookup, node_ids}
 use Rattle.scope.specs.Values.{good, bad}
@@ -20,7 +20,6 @@ use Rattle.table_rows.specs.Table.{splice}
 use Rattle.scope.specs.Sections.{room_nodes}
 use Rattle.scope.specs.Layout.{nodes_at, nodes_width, node_placed, node_numbers_at, node_numbers_width, junction_emitter, node_x}
 use Rattle.table_rows.specs.Holding.{NodeFine, Holds, After, is_junction}
-use Rattle.table_rows.specs.declared.Kept.TheVariants.{Stored, Refused}
 use Rattle.table_rows.proofs.HoldLaws.{each_at, change-node, change-node-numbers, same-count-nodes}
 use Rattle.table_find.proofs.LookLaws.{found_below}
 use Rattle.table_rows.proofs.ReadLaws.{node-count}
@@ -51,15 +50,15 @@ kind-place-numbers (tank t) none x y = refl
 kind-place-numbers (tank t) (some p) x y = refl
 
 module _ {text : List ℕ} {m : Network} {s : Counts} {w : List ℕ} {f : List Float} (h : Holds text m s w f) (id : Span) where
-  pub no-emitter : (x : Float) → lookup (node_ids m) (part id.at id.end text) ≡ Nowhere → After text (set_emitter (name_in text id) x m) (Refused NotFound) w f w f
+  pub no-emitter : (x : Float) → lookup (node_ids m) (part id.at id.end text) ≡ None → After text (set_emitter (name_in text id) x m) (Err NotFound) w f w f
   unfolding set_emitter
   no-emitter x q = rw q (refl, refl, refl)
 
-  pub no_place : (p : Place) → lookup (node_ids m) (part id.at id.end text) ≡ Nowhere → After text (set_place (name_in text id) p m) (Refused NotFound) w f w f
+  pub no_place : (p : Place) → lookup (node_ids m) (part id.at id.end text) ≡ None → After text (set_place (name_in text id) p m) (Err NotFound) w f w f
   unfolding set_place
   no_place p q = rw q (refl, refl, refl)
 
-  module _ {i : ℕ} (q : lookup (node_ids m) (part id.at id.end text) ≡ At i) where
+  module _ {i : ℕ} (q : lookup (node_ids m) (part id.at id.end text) ≡ Some i) where
     pub node-below : i < length m.nodes
     node-below = omega (arith, found_below (node_ids m) (part id.at id.end text) q, node-count m)
 
@@ -69,32 +68,32 @@ module _ {text : List ℕ} {m : Network} {s : Counts} {w : List ℕ} {f : List F
     fine : NodeFine text (get_or m.nodes i no_node)
     fine = each_at (NodeFine text) m.nodes i no_node h.words.known.nodes.fine node-below
 
-    not-emitting : (x : Float) (n : Node) (k : NodeKind) → is_junction k ≡ false → After text (on_junction k (λ j. good (change_node i (emitting n j x) m)) (bad WrongKind)) (Refused WrongKind) w f w f
+    not-emitting : (x : Float) (n : Node) (k : NodeKind) → is_junction k ≡ false → After text (on_junction k (λ j. good (change_node i (emitting n j x) m)) (bad WrongKind)) (Err WrongKind) w f w f
     not-emitting x n (junction j) t = absurd (let z : ◌≡◌ {A = ℕ} 0 1 = cc in omega arith)
     not-emitting x n (reservoir r) t = (refl, refl, refl)
     not-emitting x n (tank r) t = (refl, refl, refl)
 
-    pub no-junction : (x : Float) → is_junction (get_or m.nodes i no_node).kind ≡ false → After text (set_emitter (name_in text id) x m) (Refused WrongKind) w f w f
+    pub no-junction : (x : Float) → is_junction (get_or m.nodes i no_node).kind ≡ false → After text (set_emitter (name_in text id) x m) (Err WrongKind) w f w f
     unfolding set_emitter
     no-junction x t = rw q (not-emitting x (get_or m.nodes i no_node) (get_or m.nodes i no_node).kind t)
 
     emits : {f1 : List Float} (x : Float) (k : NodeKind) → (get_or m.nodes i no_node).kind ≡ k → is_junction k ≡ true → f1 ≡ splice f (node_numbers_at + i * node_numbers_width + junction_emitter) (x ∷ [])
-        → After text (on_junction k (λ j. good (change_node i (emitting (get_or m.nodes i no_node) j x) m)) (bad WrongKind)) (Stored s) w f w f1
+        → After text (on_junction k (λ j. good (change_node i (emitting (get_or m.nodes i no_node) j x) m)) (bad WrongKind)) (Ok s) w f w f1
     emits x (junction j) e t ef =
         let n : Node = get_or m.nodes i no_node in
         let held = change-node-numbers h i no_node (emitting n j x) junction_emitter (x ∷ []) node-below (fine.0, tt) refl (emit-words n j x e) (omega arith) (emit-numbers n j x e) ef in
-        (ap Stored (h.counts ∙ sym (same-count-nodes m i (emitting n j x))), held)
+        (ap Ok (h.counts ∙ sym (same-count-nodes m i (emitting n j x))), held)
     emits x (reservoir r) e t ef = absurd (let z : ◌≡◌ {A = ℕ} 0 1 = cc in omega arith)
     emits x (tank r) e t ef = absurd (let z : ◌≡◌ {A = ℕ} 0 1 = cc in omega arith)
 
     pub emitter-set : {f1 : List Float} (x : Float) → is_junction (get_or m.nodes i no_node).kind ≡ true → f1 ≡ splice f (node_numbers_at + i * node_numbers_width + junction_emitter) (x ∷ [])
-        → After text (set_emitter (name_in text id) x m) (Stored s) w f w f1
+        → After text (set_emitter (name_in text id) x m) (Ok s) w f w f1
     unfolding set_emitter
     emitter-set x t ef = rw q (emits x (get_or m.nodes i no_node).kind refl t ef)
 
     pub place_set : {w1 : List ℕ} {f1 : List Float} (p : Place) → w1 ≡ splice w (nodes_at + i * nodes_width + node_placed) (1 ∷ [])
         → f1 ≡ splice f (node_numbers_at + i * node_numbers_width + node_x) (p.x ∷ p.y ∷ [])
-        → After text (set_place (name_in text id) p m) (Stored s) w f w1 f1
+        → After text (set_place (name_in text id) p m) (Ok s) w f w1 f1
     unfolding set_place
     place_set p ew ef =
         let n : Node = get_or m.nodes i no_node in
@@ -102,4 +101,4 @@ module _ {text : List ℕ} {m : Network} {s : Counts} {w : List ℕ} {f : List F
         change-node h i no_node (standing n p) node_placed (1 ∷ []) node_x (p.x ∷ p.y ∷ []) node-below fine refl (omega arith) (kind-place-word n.id n.kind (placed n.place) 1) (omega arith)
         (kind-place-numbers n.kind n.place p.x p.y) ew ef
         in
-        rw q (ap Stored (h.counts ∙ sym (same-count-nodes m i (standing n p))), held)
+        rw q (ap Ok (h.counts ∙ sym (same-count-nodes m i (standing n p))), held)

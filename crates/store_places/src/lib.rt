@@ -7,9 +7,8 @@ ghost use Rattle.scope.specs.Records.{Network};
 ghost use Rattle.scope.specs.Nodes.{set_emitter, set_place, emitter_step, coordinates_step};
 ghost use Rattle.table_rows.specs.Holding.{Holds, Sound, After};
 
-use parse_pairs::{EmitterLine, EmitterRead, PairLine, PairRead};
-use scope::{Counts, Found, Reason};
-use table_rows::Kept;
+use parse_pairs::{EmitterLine, PairLine};
+use scope::{Counts, Reason};
 
 // ---- storing them
 
@@ -20,14 +19,14 @@ fn store_emitter(
     s: Counts,
     words: &mut [u64],
     numbers: &mut [f64],
-) -> Kept
+) -> Result<Counts, Reason>
     requires { Sound text.now s words.old numbers.old }
     ensures { (m : Network) → Holds text.now m s words.old numbers.old
         → After text.now (set_emitter (name_in text.now e.id) e.coefficient m) result words.old numbers.old words.new numbers.new }
 {
     let found = table_find::node_named(text, words, s.nodes, e.id);
-    let Found::At(i) = found else {
-        return Kept::Refused(Reason::NotFound);
+    let Some(i) = found else {
+        return Err(Reason::NotFound);
     };
     if table_find::is_junction(words, i) {
         table_rows::paste_numbers(
@@ -37,9 +36,9 @@ fn store_emitter(
                 + table_rows::JUNCTION_EMITTER,
             &[e.coefficient],
         );
-        return Kept::Stored(s);
+        return Ok(s);
     }
-    Kept::Refused(Reason::WrongKind)
+    Err(Reason::WrongKind)
 }
 
 // The place is a word and two numbers of a node, x and then y.
@@ -49,15 +48,15 @@ fn store_coordinates(
     s: Counts,
     words: &mut [u64],
     numbers: &mut [f64],
-) -> Kept
+) -> Result<Counts, Reason>
     requires { Sound text.now s words.old numbers.old }
     ensures { (m : Network) → Holds text.now m s words.old numbers.old
         → After text.now (set_place (name_in text.now p.id) (record { x = p.x; y = p.y }) m) result words.old
         numbers.old words.new numbers.new }
 {
     let found = table_find::node_named(text, words, s.nodes, p.id);
-    let Found::At(i) = found else {
-        return Kept::Refused(Reason::NotFound);
+    let Some(i) = found else {
+        return Err(Reason::NotFound);
     };
     table_rows::paste_words(
         words,
@@ -69,7 +68,7 @@ fn store_coordinates(
         table_rows::NODE_NUMBERS_AT + i * table_rows::NODE_NUMBERS_WIDTH + table_rows::NODE_X,
         &[p.x, p.y],
     );
-    Kept::Stored(s)
+    Ok(s)
 }
 
 // ---- the lines of the two sections
@@ -82,15 +81,15 @@ pub fn emitter_line(
     s: Counts,
     words: &mut [u64],
     numbers: &mut [f64],
-) -> Kept
+) -> Result<Counts, Reason>
     requires { Sound text.now s words.old numbers.old × (end ≤ length text.now) }
     ensures { (m : Network) → Holds text.now m s words.old numbers.old
         → After text.now (emitter_step (fields_at (take end text.now) at) m) result words.old numbers.old words.new numbers.new }
 {
     let read = parse_pairs::read_emitter(&text[..end], at);
     match read {
-        EmitterRead::Emitter(e) => store_emitter(text, e, s, words, numbers),
-        EmitterRead::NoEmitter(why) => Kept::Refused(why),
+        Ok(e) => store_emitter(text, e, s, words, numbers),
+        Err(why) => Err(why),
     }
 }
 
@@ -102,14 +101,14 @@ pub fn coordinates_line(
     s: Counts,
     words: &mut [u64],
     numbers: &mut [f64],
-) -> Kept
+) -> Result<Counts, Reason>
     requires { Sound text.now s words.old numbers.old × (end ≤ length text.now) }
     ensures { (m : Network) → Holds text.now m s words.old numbers.old
         → After text.now (coordinates_step (fields_at (take end text.now) at) m) result words.old numbers.old words.new numbers.new }
 {
     let read = parse_pairs::read_pair(&text[..end], at);
     match read {
-        PairRead::Pair(p) => store_coordinates(text, p, s, words, numbers),
-        PairRead::NoPair(why) => Kept::Refused(why),
+        Ok(p) => store_coordinates(text, p, s, words, numbers),
+        Err(why) => Err(why),
     }
 }

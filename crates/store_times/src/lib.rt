@@ -11,11 +11,10 @@ ghost use Rattle.scope.specs.Times.{option_of, option_of_two, joins, seconds_fro
 ghost use Rattle.table_rows.specs.Holding.{Holds, Sound, After};
 ghost use Rattle.store_times.specs.Lines.{TimesAs, time_from, place_of, time_put};
 
-use leaf_clock::Time;
-use leaf_decimals::Number;
-use leaf_fields::{Field, Span};
-use scope::{Counts, Found, Reason, TimeOption};
-use table_rows::Kept;
+use leaf_clock::TimeError;
+use leaf_decimals::NumberError;
+use leaf_fields::{Span};
+use scope::{Counts, Reason, TimeOption};
 
 // ---- what a line says
 
@@ -24,12 +23,6 @@ use table_rows::Kept;
 pub struct TimeLine {
     pub option: TimeOption,
     pub seconds: u64,
-}
-
-#[derive(Clone, Copy)]
-pub enum TimesRead {
-    Timed(TimeLine),
-    NoTime(Reason),
 }
 
 // ---- reading it
@@ -94,30 +87,30 @@ fn joins(l: &[u8], f: Span) -> bool
     let s = leaf_fields::letters_of(l, f);
     let n = leaf_decimals::read_number(s);
     match n {
-        Number::Value(_) => false,
-        Number::Malformed => !has_colon(s),
-        Number::Beyond => false,
+        Ok(_) => false,
+        Err(NumberError::Malformed) => !has_colon(s),
+        Err(NumberError::Beyond) => false,
     }
 }
 
-fn time_from(option: TimeOption, t: Time) -> TimesRead
+fn time_from(option: TimeOption, t: Result<u64, TimeError>) -> Result<TimeLine, Reason>
     ensures { TimesAs (time_from option t) result }
 {
     match t {
-        Time::Seconds(seconds) => TimesRead::Timed(TimeLine { option, seconds }),
-        Time::Malformed => TimesRead::NoTime(Reason::Malformed),
-        Time::Beyond => TimesRead::NoTime(Reason::BeyondReach),
-        Time::UnknownUnit => TimesRead::NoTime(Reason::UnknownWord),
+        Ok(seconds) => Ok(TimeLine { option, seconds }),
+        Err(TimeError::Malformed) => Err(Reason::Malformed),
+        Err(TimeError::Beyond) => Err(Reason::BeyondReach),
+        Err(TimeError::UnknownUnit) => Err(Reason::UnknownWord),
     }
 }
 
 // The value, and its unit where one follows.
-fn read_seconds(l: &[u8], at: usize, option: TimeOption) -> TimesRead
+fn read_seconds(l: &[u8], at: usize, option: TimeOption) -> Result<TimeLine, Reason>
     ensures { TimesAs (seconds_from option (fields_at l.now at)) result }
 {
     let f = leaf_fields::next_field(l, at);
-    let Field::Taken(value) = f else {
-        return TimesRead::NoTime(Reason::Missing);
+    let Some(value) = f else {
+        return Err(Reason::Missing);
     };
     let unit = leaf_fields::field_or(l, value.end, b"");
     time_from(
@@ -127,12 +120,12 @@ fn read_seconds(l: &[u8], at: usize, option: TimeOption) -> TimesRead
 }
 
 // What follows the first word of the option.
-fn read_option(l: &[u8], word: Span) -> TimesRead
+fn read_option(l: &[u8], word: Span) -> Result<TimeLine, Reason>
     ensures { TimesAs (after_option (name_in l.now word) (fields_at l.now word.end)) result }
 {
     let f = leaf_fields::next_field(l, word.end);
-    let Field::Taken(second) = f else {
-        return TimesRead::NoTime(Reason::Missing);
+    let Some(second) = f else {
+        return Err(Reason::Missing);
     };
     let a = leaf_fields::letters_of(l, word);
     if joins(l, second) {
@@ -144,15 +137,15 @@ fn read_option(l: &[u8], word: Span) -> TimesRead
 }
 
 // An option of one word or two, its value, and the unit; STATISTIC sets nothing and needs no value.
-fn read_times(l: &[u8], at: usize) -> TimesRead
+fn read_times(l: &[u8], at: usize) -> Result<TimeLine, Reason>
     ensures { TimesAs (times_of (fields_at l.now at)) result }
 {
     let f = leaf_fields::next_field(l, at);
-    let Field::Taken(word) = f else {
-        return TimesRead::NoTime(Reason::Missing);
+    let Some(word) = f else {
+        return Err(Reason::Missing);
     };
     if leaf_letters::spells(leaf_fields::letters_of(l, word), b"STATISTIC") {
-        return TimesRead::Timed(TimeLine {
+        return Ok(TimeLine {
             option: TimeOption::Dropped,
             seconds: 0,
         });
@@ -163,17 +156,17 @@ fn read_times(l: &[u8], at: usize) -> TimesRead
 // ---- storing it
 
 // The place of an option among the times that are kept.
-fn place_of(option: TimeOption) -> Found
+fn place_of(option: TimeOption) -> Option<usize>
     ensures { result ≡ place_of option }
 {
     match option {
-        TimeOption::Duration => Found::At(0),
-        TimeOption::HydraulicTimestep => Found::At(1),
-        TimeOption::PatternTimestep => Found::At(2),
-        TimeOption::ReportTimestep => Found::At(3),
-        TimeOption::PatternStart => Found::At(4),
-        TimeOption::StartClocktime => Found::At(5),
-        TimeOption::Dropped => Found::Nowhere,
+        TimeOption::Duration => Some(0),
+        TimeOption::HydraulicTimestep => Some(1),
+        TimeOption::PatternTimestep => Some(2),
+        TimeOption::ReportTimestep => Some(3),
+        TimeOption::PatternStart => Some(4),
+        TimeOption::StartClocktime => Some(5),
+        TimeOption::Dropped => None,
     }
 }
 
@@ -182,7 +175,7 @@ fn put_time(words: &mut [u64], option: TimeOption, seconds: u64)
     ensures { words.new ≡ time_put option seconds words.old }
 {
     let place = place_of(option);
-    let Found::At(k) = place else {
+    let Some(k) = place else {
         return;
     };
     table_rows::paste_words(
@@ -200,18 +193,18 @@ pub fn times_line(
     s: Counts,
     words: &mut [u64],
     numbers: &mut [f64],
-) -> Kept
+) -> Result<Counts, Reason>
     requires { Sound text.now s words.old numbers.old × (end ≤ length text.now) }
     ensures { (m : Network) → Holds text.now m s words.old numbers.old
         → After text.now (times_step (fields_at (take end text.now) at) m) result words.old numbers.old words.new numbers.new }
 {
     let read = read_times(&text[..end], at);
     match read {
-        TimesRead::Timed(t) => {
+        Ok(t) => {
             let option = t.option;
             put_time(words, option, t.seconds);
-            Kept::Stored(s)
+            Ok(s)
         }
-        TimesRead::NoTime(why) => Kept::Refused(why),
+        Err(why) => Err(why),
     }
 }

@@ -1,6 +1,5 @@
 -- A node, link, rule or clause read back from the tables: what the code has for each record of the network. Assumes nothing.
-use Rattle.std.specs.Prelude.{ℕ, ◌+◌, true, false, cond, List, get_or, take, eqb, Float}
-use Rattle.std.proofs.Math.Option.{Option, none, some}
+use Rattle.std.specs.Prelude.{ℕ, ◌+◌, true, false, cond, List, get_or, take, eqb, Float, None, Option, Some}
 use Rattle.std.specs.Float.{nan}
 use Rattle.leaf_fields.specs.Fields.{Name}
 use Rattle.scope.specs.Records as R
@@ -103,8 +102,8 @@ kind_back (tank t) =
     nodeIs.Tank (record { elevation = t.elevation; initial = t.initial; minimum = t.minimum; maximum = t.maximum; diameter = t.diameter; volume = t.volume; curve = name_field t.curve; overflow = t.overflow })
 
 abbrev pub node_at : Name → kindOut.NodeKind → Option R.Place → nodeOut.Node
-node_at id k none = record { id = name_span id; kind = k; placed = false; x = zero_f; y = zero_f }
-node_at id k (some p) = record { id = name_span id; kind = k; placed = true; x = p.x; y = p.y }
+node_at id k None = record { id = name_span id; kind = k; placed = false; x = zero_f; y = zero_f }
+node_at id k (Some p) = record { id = name_span id; kind = k; placed = true; x = p.x; y = p.y }
 
 abbrev pub node_back : R.Node → nodeOut.Node
 node_back n = node_at n.id (kind_back n.kind) n.place

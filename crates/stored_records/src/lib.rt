@@ -9,8 +9,8 @@ ghost use Rattle.stored_records.specs.Back.{Stands, words_from, numbers_from, ju
 ghost use Rattle.stored_records.specs.Back.{condition_by, action_by, clause_by, node_back, link_back, rule_back, clause_back};
 ghost use Rattle.scope.specs.Layout.{name_length, nodes_width, links_width, clauses_width, node_numbers_width, link_numbers_width, record_words, room_numbers};
 
-use leaf_fields::{Field, Span};
-use scope::{Action, Condition, Found, LinkKind, Pipe, PipeStatus, Pump, Tank, Value, Valve};
+use leaf_fields::{Span};
+use scope::{Action, Condition, LinkKind, Pipe, PipeStatus, Pump, Tank, Value, Valve};
 use stored_words::Amount;
 
 // ---- what the records are
@@ -26,8 +26,8 @@ pub struct Junction {
 #[derive(Clone, Copy)]
 pub struct Reservoir {
     pub elevation: f64,
-    pub pattern: Field,
-    pub index: Found,
+    pub pattern: Option<Span>,
+    pub index: Option<usize>,
 }
 
 #[derive(Clone, Copy)]
@@ -83,7 +83,7 @@ pub fn span_at(words: &[u64], at: usize) -> Span
     )
 }
 
-pub fn field_at(words: &[u64], at: usize) -> Field
+pub fn field_at(words: &[u64], at: usize) -> Option<Span>
     requires { at + name_length < length words.now }
     ensures { result ≡ field_from (get_or words.now at 0) (get_or words.now (at + name_length) 0) }
 {

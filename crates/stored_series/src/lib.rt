@@ -10,8 +10,7 @@ ghost use Rattle.stored_records.specs.Back.{Stands};
 ghost use Rattle.stored_series.specs.Back.{curve_back, pattern_back, point_back, multiplier_back, demand_back};
 ghost use Rattle.scope.specs.Layout.{record_words, room_numbers, room_times};
 
-use leaf_fields::{Field, Span};
-use scope::Found;
+use leaf_fields::{Span};
 use stored_words::Amount;
 
 // ---- what the records are
@@ -47,8 +46,8 @@ pub struct Demand {
     pub node: usize,
     pub own: bool,
     pub base: f64,
-    pub pattern: Field,
-    pub index: Found,
+    pub pattern: Option<Span>,
+    pub index: Option<usize>,
 }
 
 // ---- curves and patterns
@@ -174,8 +173,8 @@ pub fn demand_at(words: &[u64], numbers: &[f64], i: usize) -> Demand
         node: 0,
         own: false,
         base: 0.0,
-        pattern: Field::Nothing,
-        index: Found::Nowhere,
+        pattern: None,
+        index: None,
     }
 }
 

@@ -1,12 +1,7 @@
 -- What the words of a name, a place and an amount stand for. Assumes nothing.
-use Rattle.std.specs.Prelude.{ℕ, ◌+◌, ◌-◌, cond, length, eqb, ltb}
-use Rattle.std.proofs.Math.Option.{Option, none, some}
+use Rattle.std.specs.Prelude.{ℕ, ◌+◌, ◌-◌, cond, length, eqb, ltb, None, Option, Some}
 use Rattle.leaf_fields.specs.Fields.{Name}
 use Rattle.leaf_fields.specs.declared.Span.{Span}
-use Rattle.leaf_fields.specs.declared.Field.{Field}
-use Rattle.leaf_fields.specs.declared.Field.TheVariants.{Taken, Nothing}
-use Rattle.scope.specs.declared.Found.{Found}
-use Rattle.scope.specs.declared.Found.TheVariants.{At, Nowhere}
 use Rattle.stored_words.specs.declared.Amount.{Amount}
 use Rattle.stored_words.specs.declared.Amount.TheVariants.{Set, Unset}
 
@@ -14,11 +9,11 @@ use Rattle.stored_words.specs.declared.Amount.TheVariants.{Set, Unset}
 abbrev pub span_from : ℕ → ℕ → Span
 span_from at long = cond (ltb (18446744073709551615 - at) long) (record { at = at; end = at }) (record { at = at; end = at + long })
 
-abbrev pub field_from : ℕ → ℕ → Field
-field_from at long = cond (eqb long 0) Nothing (Taken (span_from at long))
+abbrev pub field_from : ℕ → ℕ → Option Span
+field_from at long = cond (eqb long 0) None (Some (span_from at long))
 
-abbrev pub found_from : ℕ → Found
-found_from n = cond (eqb n 0) Nowhere (At (n - 1))
+abbrev pub found_from : ℕ → Option ℕ
+found_from n = cond (eqb n 0) None (Some (n - 1))
 
 abbrev pub amount_from : ℕ → ℕ → Amount
 amount_from n x = cond (eqb n 0) Unset (Set x)
@@ -27,14 +22,14 @@ amount_from n x = cond (eqb n 0) Unset (Set x)
 abbrev pub name_span : Name → Span
 name_span n = span_from n.at (length n.letters)
 
-abbrev pub name_field : Option Name → Field
-name_field none = Nothing
-name_field (some n) = field_from n.at (length n.letters)
+abbrev pub name_field : Option Name → Option Span
+name_field None = None
+name_field (Some n) = field_from n.at (length n.letters)
 
-abbrev pub place_found : Option ℕ → Found
-place_found none = Nowhere
-place_found (some i) = At i
+abbrev pub place_found : Option ℕ → Option ℕ
+place_found None = None
+place_found (Some i) = Some i
 
 abbrev pub amount_of : Option ℕ → Amount
-amount_of none = Unset
-amount_of (some n) = Set n
+amount_of None = Unset
+amount_of (Some n) = Set n

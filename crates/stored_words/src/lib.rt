@@ -4,8 +4,7 @@
 ghost use Rattle.std.specs.Prelude.{◌≡◌};
 ghost use Rattle.stored_words.specs.Words.{span_from, field_from, found_from, amount_from};
 
-use leaf_fields::{Field, Span};
-use scope::Found;
+use leaf_fields::{Span};
 
 // A number that may be unset.
 #[derive(Clone, Copy)]
@@ -25,22 +24,22 @@ pub fn span_from(at: usize, long: usize) -> Span
 }
 
 // A field by its place and its length; no field is empty.
-pub fn field_from(at: usize, long: usize) -> Field
+pub fn field_from(at: usize, long: usize) -> Option<Span>
     ensures { result ≡ field_from at long }
 {
     if long == 0 {
-        return Field::Nothing;
+        return None;
     }
-    Field::Taken(span_from(at, long))
+    Some(span_from(at, long))
 }
 
-pub fn found_from(n: u64) -> Found
+pub fn found_from(n: u64) -> Option<usize>
     ensures { result ≡ found_from n }
 {
     if n == 0 {
-        return Found::Nowhere;
+        return None;
     }
-    Found::At((n - 1) as usize)
+    Some((n - 1) as usize)
 }
 
 pub fn amount_from(n: u64, x: u64) -> Amount

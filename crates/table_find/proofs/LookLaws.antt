@@ -1,4 +1,5 @@
 -- Looking a name up, one row at a time. Assumes nothing.
+use Rattle.std.specs.Prelude.{None, Option, Some}
 use Prim.Native.Nat.{ℕ, suc, ◌+◌, ◌≤◌, ◌<◌}
 use native.Mathlib.Omega.{arith}
 use mathlib.Core.Path.{◌≡◌, refl, sym, ap, ◌∙◌}
@@ -11,8 +12,6 @@ use Rattle.leaf_letters.specs.Words.{same}
 use Rattle.leaf_letters.proofs.WordLaws.{same-equal, same-iff}
 use Rattle.scope.specs.Records.{lookup_from, lookup, no_name}
 use Rattle.scope.specs.Tables.{key_of, id_words}
-use Rattle.scope.specs.declared.Found.{Found}
-use Rattle.scope.specs.declared.Found.TheVariants.{At, Nowhere}
 use Rattle.table_rows.specs.Holding.{Row, Below}
 use Rattle.table_keys.proofs.KeyLaws.{Bytes, bytes-part, one_key}
 
@@ -45,7 +44,7 @@ module _ {text w : List ℕ} {at : ℕ} {n : Name} (r : Row text w at n) where
 
 -- ---- the rows that are left
 module _ (ns : List Name) (i : ℕ) (word : List ℕ) where
-  pub look-here : i < length ns → same (get_or ns i no_name).letters word ≡ true → lookup_from i (drop i ns) word ≡ At i
+  pub look-here : i < length ns → same (get_or ns i no_name).letters word ≡ true → lookup_from i (drop i ns) word ≡ Some i
   unfolding lookup_from
   look-here h e = rw (drop-cons ns i no_name h, e)
 
@@ -53,30 +52,30 @@ module _ (ns : List Name) (i : ℕ) (word : List ℕ) where
   unfolding lookup_from
   look-on h e = rw (drop-cons ns i no_name h, e)
 
-  pub look-end : length ns ≤ i → lookup_from i (drop i ns) word ≡ Nowhere
+  pub look-end : length ns ≤ i → lookup_from i (drop i ns) word ≡ None
   unfolding lookup_from
   look-end h = rw (drop_of_length-le ns {i = i} h)
 
 -- what is found is one of the names
-from-below : (j : ℕ) (ns : List Name) (word : List ℕ) (i : ℕ) → lookup_from j ns word ≡ At i → i < j + length ns
+from-below : (j : ℕ) (ns : List Name) (word : List ℕ) (i : ℕ) → lookup_from j ns word ≡ Some i → i < j + length ns
 unfolding lookup_from
 from-below j [] word i e = let z : ◌≡◌ {A = ℕ} 0 1 = cc in absurd (omega arith)
 from-below j (n ∷ ns) word i e = go (same n.letters word) e (from-below (suc j) ns word i)
   where
-    go : (t : Bool) → cond t (At j) (lookup_from (suc j) ns word) ≡ At i → (lookup_from (suc j) ns word ≡ At i → i < suc j + length ns) → i < j + suc (length ns)
+    go : (t : Bool) → cond t (Some j) (lookup_from (suc j) ns word) ≡ Some i → (lookup_from (suc j) ns word ≡ Some i → i < suc j + length ns) → i < j + suc (length ns)
     go true e f = let k : j ≡ i = cc in omega arith
     go false e f = omega (arith, f e)
 
-pub found_below : (ns : List Name) (word : List ℕ) {i : ℕ} → lookup ns word ≡ At i → i < length ns
+pub found_below : (ns : List Name) (word : List ℕ) {i : ℕ} → lookup ns word ≡ Some i → i < length ns
 found_below ns word {i} e = omega (arith, from-below 0 ns word i e)
 
 -- what was found is below any bound of the names
-pub below-bound : (ns : List Name) (word : List ℕ) (bound : ℕ) (f : Found) → f ≡ lookup ns word → length ns ≤ bound → Below bound f
-below-bound ns word bound (At i) e h = omega (arith, found_below ns word (sym e))
-below-bound ns word bound Nowhere e h = tt
+pub below-bound : (ns : List Name) (word : List ℕ) (bound : ℕ) (f : Option ℕ) → f ≡ lookup ns word → length ns ≤ bound → Below bound f
+below-bound ns word bound (Some i) e h = omega (arith, found_below ns word (sym e))
+below-bound ns word bound None e h = tt
 
 -- the name as its place in the text has it, and the answer as a branch takes it
-pub told-found : (ns : List Name) {a b : List ℕ} {r r' : Found} → a ≡ b → r ≡ lookup ns a → r ≡ r' → lookup ns b ≡ r'
+pub told-found : (ns : List Name) {a b : List ℕ} {r r' : Option ℕ} → a ≡ b → r ≡ lookup ns a → r ≡ r' → lookup ns b ≡ r'
 told-found ns e h k = rw (← e) (sym h ∙ k)
 
 -- the key among the words of a name is that of its letters

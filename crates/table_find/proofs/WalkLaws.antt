@@ -1,4 +1,5 @@
 -- The walk over a table's rows, and what is passed on the way. Assumes nothing.
+use Rattle.std.specs.Prelude.{None, Some}
 use Prim.Native.Nat.{ℕ, zero, suc, ◌+◌, ◌*◌, ◌≤◌, ◌<◌}
 use native.Mathlib.Omega.{arith}
 use native.Mathlib.Numerals.{add-one}
@@ -9,7 +10,6 @@ use lib.ListN.{length, drop, get_or}
 use Rattle.leaf_fields.specs.Fields.{Name}
 use Rattle.leaf_letters.specs.Words.{same}
 use Rattle.scope.specs.Records.{lookup, lookup_from, no_name}
-use Rattle.scope.specs.declared.Found.TheVariants.{At, Nowhere}
 use Rattle.table_rows.specs.Holding.{Row, Rows, SomeRow, SomeRows, OtherNames}
 use Rattle.table_find.proofs.LookLaws.{look-here, look-on, look-end}
 
@@ -38,12 +38,12 @@ module _ (text w : List ℕ) (base stride count : ℕ) (name : List ℕ) where
             rw add-one (sym (look-on ns i name b (sym (is (get_or ns i no_name) (rows i b)) ∙ f)) ∙ g.1 ns k rows),
       )
 
-      pub found-search : i < count → t ≡ true → (ns : List Name) → count ≡ length ns → Rows text w base stride ns → At i ≡ lookup ns name
+      pub found-search : i < count → t ≡ true → (ns : List Name) → count ≡ length ns → Rows text w base stride ns → Some i ≡ lookup ns name
       found-search h f ns k rows =
           let b : i < length ns = omega (arith, k) in
           sym (look-here ns i name b (sym (is (get_or ns i no_name) (rows i b)) ∙ f)) ∙ g.1 ns k rows
 
-    pub none-search : count ≤ i → (ns : List Name) → count ≡ length ns → Rows text w base stride ns → Nowhere ≡ lookup ns name
+    pub none-search : count ≤ i → (ns : List Name) → count ≡ length ns → Rows text w base stride ns → None ≡ lookup ns name
     none-search h ns k rows = sym (look-end ns i name (omega (arith, k))) ∙ g.1 ns k rows
 
 -- ---- the rows of a table

@@ -13,7 +13,7 @@ ghost use Rattle.table_find.specs.Finding.{base_of, width_of, StartsAt};
 ghost use Rattle.table_rows.specs.Holding.{Words, Row, Rows, SomeRow, SomeRows, OtherNames, NotInSlot, FirstInSlot, is_junction};
 
 use leaf_fields::Span;
-use scope::{Found, Kind};
+use scope::{Kind};
 
 // The first of `count` rows that has the slot at `at`; where none has it, past them all.
 pub fn first_in_slot(words: &[u64], at: usize, count: usize) -> usize
@@ -61,7 +61,7 @@ fn walk_rows(
     count: usize,
     key: u64,
     name: &[u8],
-) -> Found
+) -> Option<usize>
     requires { SomeRows text.now words.now base stride count × (base < 65536) × (key ≡ key_of name.now) × (from ≤ count) × OtherNames text.now words.now base stride name.now from }
     ensures { (ns : List Name) → count ≡ length ns → Rows text.now words.now base stride ns → result ≡ lookup ns name.now }
 {
@@ -69,11 +69,11 @@ fn walk_rows(
     while i < count {
         let row = base + i * stride;
         if row_is(text, words, row, key, name) {
-            return Found::At(i);
+            return Some(i);
         }
         i += 1;
     }
-    Found::Nowhere
+    None
 }
 
 fn base_of(kind: Kind) -> usize
@@ -116,7 +116,7 @@ fn start_of(words: &[u64], kind: Kind, key: u64, count: usize) -> usize
 }
 
 // The record of the kind, of which there are `count`, that has the name; the name has the key.
-pub fn find(text: &[u8], words: &[u64], kind: Kind, count: usize, key: u64, name: &[u8]) -> Found
+pub fn find(text: &[u8], words: &[u64], kind: Kind, count: usize, key: u64, name: &[u8]) -> Option<usize>
     requires { ((m : Network) × Words text.now m words.now × (count ≡ records_of kind (counts_of m))) × (key ≡ key_of name.now) }
     ensures { (m : Network) → Words text.now m words.now → count ≡ records_of kind (counts_of m) → result ≡ lookup (ids_of kind m) name.now }
 {
@@ -134,7 +134,7 @@ pub fn find(text: &[u8], words: &[u64], kind: Kind, count: usize, key: u64, name
 }
 
 // The same of a name whose key is not made yet, wherever its letters stand.
-pub fn find_named(text: &[u8], words: &[u64], kind: Kind, count: usize, name: &[u8]) -> Found
+pub fn find_named(text: &[u8], words: &[u64], kind: Kind, count: usize, name: &[u8]) -> Option<usize>
     requires { (m : Network) × Words text.now m words.now × (count ≡ records_of kind (counts_of m)) }
     ensures { (m : Network) → Words text.now m words.now → count ≡ records_of kind (counts_of m) → result ≡ lookup (ids_of kind m) name.now }
 {
@@ -142,7 +142,7 @@ pub fn find_named(text: &[u8], words: &[u64], kind: Kind, count: usize, name: &[
 }
 
 // The same of a name where it stands in the text, whose key is then made of eight letters at once.
-pub fn find_at(text: &[u8], words: &[u64], kind: Kind, count: usize, name: Span) -> Found
+pub fn find_at(text: &[u8], words: &[u64], kind: Kind, count: usize, name: Span) -> Option<usize>
     requires { (m : Network) × Words text.now m words.now × (count ≡ records_of kind (counts_of m)) }
     ensures { (m : Network) → Words text.now m words.now → count ≡ records_of kind (counts_of m)
         → result ≡ lookup (ids_of kind m) (part name.at name.end text.now) }
@@ -152,7 +152,7 @@ pub fn find_at(text: &[u8], words: &[u64], kind: Kind, count: usize, name: Span)
 }
 
 // Where the node of the name stands.
-pub fn node_named(text: &[u8], words: &[u64], nodes: usize, name: Span) -> Found
+pub fn node_named(text: &[u8], words: &[u64], nodes: usize, name: Span) -> Option<usize>
     requires { (m : Network) × Words text.now m words.now × (nodes ≡ length m.nodes) }
     ensures { (m : Network) → Words text.now m words.now → nodes ≡ length m.nodes → result ≡ lookup (node_ids m) (part name.at name.end text.now) }
 {

@@ -1,4 +1,5 @@
 -- What an answer says of the tables, and how long they are: for whoever stores, or calls what stores. Assumes nothing.
+use Rattle.std.specs.Prelude.{Err, Ok, Result}
 use Prim.Native.Nat.{ℕ, ◌+◌, ◌≤◌}
 use native.Mathlib.Omega.{arith}
 use mathlib.Core.Path.{◌≡◌, refl, ap, subst}
@@ -12,8 +13,6 @@ use Rattle.scope.specs.declared.Counts.{Counts}
 use Rattle.scope.specs.declared.Reason.{Reason}
 use Rattle.table_rows.specs.Table.{splice}
 use Rattle.table_rows.specs.Holding.{Holds, Sound, After}
-use Rattle.table_rows.specs.declared.Kept.{Kept}
-use Rattle.table_rows.specs.declared.Kept.TheVariants.{Stored, Refused}
 use Rattle.table_rows.proofs.EmptyLaws.{words_long, numbers-long}
 
 -- ---- lengths
@@ -36,10 +35,10 @@ module _ {text : List ℕ} {s : Counts} {w : List ℕ} {f : List Float} where
 
 -- ---- answers
 module _ (text w w' : List ℕ) (f f' : List Float) where
-  pub after-stored : (o : Read Network) (r : Kept) (t : Counts) → After text o r w f w' f' → r ≡ Stored t → (m : Network) × (o ≡ good m) × Holds text m t w' f'
+  pub after-stored : (o : Read Network) (r : Result Counts Reason) (t : Counts) → After text o r w f w' f' → r ≡ Ok t → (m : Network) × (o ≡ good m) × Holds text m t w' f'
   after-stored (good m) r t a e = let q : counts_of m ≡ t = let p = a.0 in cc in (m, refl, subst (λ (x : Counts). Holds text m x w' f') q a.1)
   after-stored (bad n) r t a e = absurd (let z : ◌≡◌ {A = ℕ} 0 1 = let p = a.0 in cc in omega arith)
 
-  pub after-refused : (o : Read Network) (r : Kept) (n : Reason) → After text o r w f w' f' → r ≡ Refused n → (o ≡ bad n) × (w' ≡ w) × (f' ≡ f)
+  pub after-refused : (o : Read Network) (r : Result Counts Reason) (n : Reason) → After text o r w f w' f' → r ≡ Err n → (o ≡ bad n) × (w' ≡ w) × (f' ≡ f)
   after-refused (good m) r n a e = absurd (let z : ◌≡◌ {A = ℕ} 0 1 = let p = a.0 in cc in omega arith)
   after-refused (bad k) r n a e = let q : k ≡ n = let p = a.0 in cc in (ap bad q, a.1, a.2)

@@ -1,4 +1,5 @@
 -- What the two tables hold after a record more, or one changed. `n` is the count of the records before, as the code has it. Assumes nothing.
+use Rattle.std.specs.Prelude.{None, Some}
 use Prim.Native.Nat.{ℕ, zero, suc, ◌+◌, ◌-◌, ◌*◌, ◌≤◌, ◌<◌}
 use native.Mathlib.Omega.{arith}
 use native.Mathlib.Nat.{mul-one}
@@ -10,8 +11,6 @@ use lib.ListN.{length, set, get_or, replicate, length-append, length-map, length
 use lib.Ieee.{Float}
 use Rattle.leaf_fields.specs.Fields.{Name, name_in, Fits, part}
 use Rattle.leaf_fields.specs.declared.Span.{Span}
-use Rattle.leaf_fields.specs.declared.Field.{Field}
-use Rattle.leaf_fields.specs.declared.Field.TheVariants.{Taken, Nothing}
 use Rattle.leaf_fields.proofs.FieldLaws.{length_part}
 use Rattle.scope.specs.Records.{Network, Node, Link, Point, Multiplier, Demand, Rule, Clause, counts_of, with_nodes, with_links, with_curves, with_points}
 use Rattle.scope.specs.Records.{with_patterns, with_multipliers, with_demands, with_times, with_rules, with_clauses, no_demand}
@@ -44,9 +43,9 @@ sits-span text s h =
     let e : s.at + length (part s.at s.end text) ≡ s.end = omega (arith, k, h.some) in
     record { there = rw e; inside = omega (arith, e, h.inside); filled = omega (arith, k, h.some) }
 
-pub sits-field : (text : List ℕ) (f : Field) → MayFit text f → SitsOr text (opt_in text f)
-sits-field text (Taken s) h = sits-span text s h
-sits-field text Nothing h = tt
+pub sits-field : (text : List ℕ) (f : Option Span) → MayFit text f → SitsOr text (opt_in text f)
+sits-field text (Some s) h = sits-span text s h
+sits-field text None h = tt
 
 -- ---- what is known of the records of one kind, with more of them or one changed
 module _ {R : Type 0} (Fine : R → Type 0) where

@@ -1,6 +1,6 @@
 -- The two tables, and the counts, hold a network. Assumes nothing.
-use Rattle.std.specs.Prelude.{ℕ, suc, ◌+◌, ◌*◌, ◌≤◌, ◌<◌, ◌≡◌, List, [], ◌∷◌, Bool, true, false, length, get_or, Float}
-use Rattle.std.proofs.Math.Option.{Option, none, some}
+use Rattle.scope.specs.declared.Reason.{Reason}
+use Rattle.std.specs.Prelude.{ℕ, suc, ◌+◌, ◌*◌, ◌≤◌, ◌<◌, ◌≡◌, List, [], ◌∷◌, Bool, true, false, length, get_or, Float, Err, None, Ok, Option, Result, Some}
 use Rattle.leaf_letters.specs.Words.{same}
 use Rattle.leaf_fields.specs.Fields.{Name, part}
 pub use Rattle.leaf_fields.specs.Fields.{opt_in, MayFit}
@@ -10,10 +10,6 @@ use Rattle.scope.specs.Sections.{room_nodes, room_links, room_curves, room_point
 use Rattle.scope.specs.Layout.{id_length, id_key, room_times, demand_slots_long}
 use Rattle.scope.specs.Tables.{key_of, slots, demand_slot, blocks, word_blocks, number_blocks}
 use Rattle.scope.specs.declared.Counts.{Counts}
-use Rattle.scope.specs.declared.Found.{Found}
-use Rattle.scope.specs.declared.Found.TheVariants.{At, Nowhere}
-use Rattle.table_rows.specs.declared.Kept.{Kept}
-use Rattle.table_rows.specs.declared.Kept.TheVariants.{Stored, Refused}
 
 -- ---- names
 -- the letters of a name, one at least, stand in the text at its place
@@ -24,8 +20,8 @@ pub record Sits (text : List ℕ) (n : Name) : Type 0 where
 
 -- a name that may be missing
 abbrev pub SitsOr : List ℕ → Option Name → Type 0
-SitsOr text none = Unit
-SitsOr text (some n) = Sits text n
+SitsOr text None = Unit
+SitsOr text (Some n) = Sits text n
 
 -- ---- what is known of the records of a network
 abbrev pub Each : {R : Type 0} → (R → Type 0) → List R → Type 0
@@ -38,9 +34,9 @@ pub record Part {R : Type 0} (Fine : R → Type 0) (room : ℕ) (rs : List R) : 
   pub fine : Each Fine rs
 
 abbrev pub pattern_in : NodeKind → Option Name
-pattern_in (junction j) = none
+pattern_in (junction j) = None
 pattern_in (reservoir r) = r.pattern
-pattern_in (tank t) = none
+pattern_in (tank t) = None
 
 abbrev pub NodeFine : List ℕ → Node → Type 0
 NodeFine text n = Sits text n.id × SitsOr text (pattern_in n.kind)
@@ -94,15 +90,15 @@ pub record Holds (text : List ℕ) (m : Network) (s : Counts) (w : List ℕ) (f 
   pub words : Words text m w
   pub numbers : Numbers m f
 
--- some network is held
+-- Some network is held
 pub record Sound (text : List ℕ) (s : Counts) (w : List ℕ) (f : List Float) : Type 0 where
   pub m : Network
   pub holds : Holds text m s w f
 
 -- ---- what a line or a group does: the answer, and what the tables hold after it. Where it is refused they are as they were.
-abbrev pub After : List ℕ → Read Network → Kept → List ℕ → List Float → List ℕ → List Float → Type 0
-After text (good m) r w f w' f' = (r ≡ Stored (counts_of m)) × Holds text m (counts_of m) w' f'
-After text (bad n) r w f w' f' = (r ≡ Refused n) × (w' ≡ w) × (f' ≡ f)
+abbrev pub After : List ℕ → Read Network → Result Counts Reason → List ℕ → List Float → List ℕ → List Float → Type 0
+After text (good m) r w f w' f' = (r ≡ Ok (counts_of m)) × Holds text m (counts_of m) w' f'
+After text (bad n) r w f w' f' = (r ≡ Err n) × (w' ≡ w) × (f' ≡ f)
 
 -- ---- rows of names in the words: row i is at base + i * stride, and starts with the place, the length and the key of the i-th name
 pub record Row (text w : List ℕ) (at : ℕ) (n : Name) : Type 0 where
@@ -139,9 +135,9 @@ FirstInSlot v count b = 0 < v → v ≤ count → suc b ≡ v
 
 -- ---- small things
 -- a place that was found is below n
-abbrev pub Below : ℕ → Found → Type 0
-Below n (At i) = i < n
-Below n Nowhere = Unit
+abbrev pub Below : ℕ → Option ℕ → Type 0
+Below n (Some i) = i < n
+Below n None = Unit
 
 abbrev pub is_junction : NodeKind → Bool
 is_junction (junction j) = true

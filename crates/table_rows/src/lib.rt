@@ -11,8 +11,8 @@ ghost use Rattle.scope.specs.Layout.{patterns_at, pattern_slots_at, id_width, re
 ghost use Rattle.table_rows.specs.Table.{splice};
 ghost use Rattle.table_rows.specs.Holding.{opt_in, Below};
 
-use leaf_fields::{Field, Span};
-use scope::{Counts, Found, Reason};
+use leaf_fields::{Span};
+use scope::{Counts, Reason};
 
 // ---- the layout (docs/LAYOUT.md): a place is the place before it plus what stands there. Nothing else says so but crates/scope/specs/Layout.antt, and
 // `table_layout` proves that the two agree.
@@ -274,13 +274,6 @@ pub const CLAUSE_NUMBERS_AT: usize = DEMAND_NUMBERS_AT + DEMANDS_MOST * DEMAND_N
 
 pub const NUMBERS_ROOM: usize = CLAUSE_NUMBERS_AT + CLAUSES_MOST * CLAUSE_NUMBERS_WIDTH;
 
-// What storing a record gives: the new counts, or why nothing was stored.
-#[derive(Clone, Copy)]
-pub enum Kept {
-    Stored(Counts),
-    Refused(Reason),
-}
-
 // ---- a record pasted, and a table cleared
 
 pub fn paste_words(words: &mut [u64], at: usize, rec: &[u64])
@@ -355,10 +348,10 @@ pub fn id_words(text: &[u8], id: Span) -> [u64; ID_WIDTH]
 }
 
 // The place and the length of a name that may be missing.
-pub fn name_words(text: &[u8], f: Field) -> [u64; NAME_WIDTH]
+pub fn name_words(text: &[u8], f: Option<Span>) -> [u64; NAME_WIDTH]
     ensures { result ≡ name_words (opt_in text.now f) }
 {
-    let Field::Taken(s) = f else {
+    let Some(s) = f else {
         return [0, 0];
     };
     let l = leaf_fields::letters_of(text, s);
@@ -372,13 +365,13 @@ pub fn flag_of(b: bool) -> u64
 }
 
 // None is 0 and a place is itself plus one.
-pub fn index_number(f: Found) -> u64
+pub fn index_number(f: Option<usize>) -> u64
     requires { Below 65536 f }
     ensures { result ≡ index_no (place_in f) }
 {
     match f {
-        Found::At(i) => i as u64 + 1,
-        Found::Nowhere => 0,
+        Some(i) => i as u64 + 1,
+        None => 0,
     }
 }
 

@@ -10,9 +10,8 @@
 
 ghost use Rattle.std.specs.Prelude.{◌<◌};
 
-use leaf_clock::Time;
-use leaf_counts::Count;
-use leaf_decimals::Number;
+use leaf_clock::TimeError;
+use leaf_decimals::NumberError;
 use std::io;
 use std::io::{BufWriter, Read, Write};
 
@@ -58,16 +57,16 @@ fn double_agrees(x: f64, answer: &[u8]) -> bool {
 
 fn number_agrees(text: &[u8], answer: &[u8]) -> bool {
     match leaf_decimals::read_number(text) {
-        Number::Value(x) => double_agrees(x, answer),
-        Number::Malformed => same(answer, b"2"),
-        Number::Beyond => same(answer, b"22"),
+        Ok(x) => double_agrees(x, answer),
+        Err(NumberError::Malformed) => same(answer, b"2"),
+        Err(NumberError::Beyond) => same(answer, b"22"),
     }
 }
 
 fn count_agrees(text: &[u8], answer: &[u8]) -> bool {
     match leaf_counts::read_count(text) {
-        Count::Whole(n) => is_hex(n, answer),
-        Count::Uncounted => same(answer, b"2"),
+        Some(n) => is_hex(n, answer),
+        None => same(answer, b"2"),
     }
 }
 
@@ -81,10 +80,10 @@ fn unit_in(field: &[u8]) -> &[u8] {
 
 fn time_agrees(text: &[u8], unit: &[u8], answer: &[u8]) -> bool {
     match leaf_clock::read_time(text, unit) {
-        Time::Seconds(n) => is_hex(n, answer),
-        Time::Malformed => same(answer, b"2"),
-        Time::UnknownUnit => same(answer, b"7"),
-        Time::Beyond => same(answer, b"22"),
+        Ok(n) => is_hex(n, answer),
+        Err(TimeError::Malformed) => same(answer, b"2"),
+        Err(TimeError::UnknownUnit) => same(answer, b"7"),
+        Err(TimeError::Beyond) => same(answer, b"22"),
     }
 }
 

@@ -1,8 +1,8 @@
 // What the programs write: words, counts and numbers, and names as they stand in the text.
 #![tactic(auto)]
 
-use leaf_fields::{Field, Span};
-use scope::{Found, LinkStatus};
+use leaf_fields::{Span};
+use scope::{LinkStatus};
 use std::io;
 use std::io::Write;
 
@@ -97,18 +97,18 @@ pub fn id<W: Write>(out: &mut W, text: &[u8], s: Span) -> io::Result<()> {
 }
 
 // A name after a space; `-` where there is none.
-pub fn name<W: Write>(out: &mut W, text: &[u8], f: Field) -> io::Result<()> {
+pub fn name<W: Write>(out: &mut W, text: &[u8], f: Option<Span>) -> io::Result<()> {
     match f {
-        Field::Taken(s) => id(out, text, s),
-        Field::Nothing => write(out, b" -"),
+        Some(s) => id(out, text, s),
+        None => write(out, b" -"),
     }
 }
 
 // A place in a table after a space; `-` where there is none.
-pub fn index<W: Write>(out: &mut W, found: Found) -> io::Result<()> {
+pub fn index<W: Write>(out: &mut W, found: Option<usize>) -> io::Result<()> {
     match found {
-        Found::At(i) => count(out, i as u64),
-        Found::Nowhere => write(out, b" -"),
+        Some(i) => count(out, i as u64),
+        None => write(out, b" -"),
     }
 }
 

@@ -1,7 +1,8 @@
 -- `leaf_clock::read_time` meets its contract. Assumes nothing.
+use Rattle.std.specs.Prelude.{Err}
+use Rattle.std.proofs.lemmas.Result.{err_from_is_err_and}
 use Rattle.std.proofs.Common.{sym, refl, ap, ◌∙◌, arith}
 use Rattle.leaf_clock.specs.declared.Unit.{Unit}
-use Rattle.leaf_clock.specs.declared.Time.TheVariants.{Malformed, Beyond}
 use Rattle.leaf_clock.specs.Times.{in_unit}
 use Rattle.leaf_clock.proofs.Parts.{start-length}
 use Rattle.leaf_clock.proofs.Products.{by-nearest}
@@ -17,21 +18,16 @@ returns-then-at-time c =
     let p = by-nearest c.args.time.now c.args.unit.now c.colon_form.result (with-colon a.time.now a.unit.now _ c.colon_at-at.ensures _ c.if-at-time.true _ c.before_colon.ensures c.colon_form.ensures) in
     record { value = p.0; nearest = p.1 }
 
-pub returns-in-Malformed : goal.returns-in-Malformed
-returns-in-Malformed c =
+pub returns-in_err-x : goal.returns-in_err-x
+returns-in_err-x c =
     let a = c.args in
-    let p = by-nearest c.args.time.now c.args.unit.now Malformed (with_number a.time.now a.unit.now _ c.colon_at-at.ensures _ c.if-at-time.false _ (sym c.in-Malformed.is ∙ c.read_number-n.ensures.value) refl) in
+    let (e, is, q) = err_from_is_err_and c.from_residual.result c.from_residual.ensures.1 in
+    let p = by-nearest a.time.now a.unit.now c.from_residual.result (with_number a.time.now a.unit.now _ c.colon_at-at.ensures _ c.if-at-time.false _ (sym c.in_err-x.was ∙ c.read_number.ensures.value) (is ∙ ap Err q)) in
     record { value = p.0; nearest = p.1 }
 
-pub returns-in-Beyond : goal.returns-in-Beyond
-returns-in-Beyond c =
-    let a = c.args in
-    let p = by-nearest c.args.time.now c.args.unit.now Beyond (with_number a.time.now a.unit.now _ c.colon_at-at.ensures _ c.if-at-time.false _ (sym c.in-Beyond.is ∙ c.read_number-n.ensures.value) refl) in
-    record { value = p.0; nearest = p.1 }
-
-pub returns-in-Value : goal.returns-in-Value
-returns-in-Value c =
+pub returns : goal.returns
+returns c =
     let p = by-nearest c.args.time.now c.args.unit.now c.in_unit.result (with_number c.args.time.now c.args.unit.now _ c.colon_at-at.ensures _ c.if-at-time.false _
-    (sym c.in-Value.is ∙ c.read_number-n.ensures.value)
-    (c.in_unit.ensures ∙ ap (λ (u : Unit). in_unit u c.in-Value.x) c.unit_of.ensures)) in
+    (sym c.in_ok-x.was ∙ c.read_number.ensures.value)
+    (c.in_unit.ensures ∙ ap (λ (u : Unit). in_unit u c.in_ok-x.x) c.unit_of.ensures)) in
     record { value = p.0; nearest = p.1 }

@@ -1,4 +1,5 @@
 -- `leaf_counts::read_whole` meets its contract. Assumes nothing.
+use Rattle.std.specs.Prelude.{None}
 use mathlib.Core.Path.{◌≡◌, sym, ap, ◌∙◌}
 use mathlib.Core.Bool.{true}
 use mathlib.Core.List.{List}
@@ -6,7 +7,6 @@ use Prim.Native.Nat.{ℕ, ◌+◌, ◌-◌, ◌*◌, ◌^◌, ◌≤◌, ◌<◌
 use native.Mathlib.Omega.{arith}
 use lib.ListN.{length, drop, get_or}
 use Rattle.leaf_digits.specs.declared.Class.TheVariants.{Digit}
-use Rattle.leaf_counts.specs.declared.Count.TheVariants.{Uncounted}
 use Rattle.leaf_digits.specs.Bytes.{is}
 use Rattle.leaf_counts.specs.Counts.{whole}
 use Rattle.leaf_digits.proofs.Classes.{digit-range}
@@ -20,7 +20,7 @@ digit-le b e = omega (arith, digit-range b e)
 again : (s : List ℕ) (i v d : ℕ) → Known s i v → i < length s → is Digit (get_or s i 0) ≡ true → d ≡ get_or s i 0 - 48 → v * 10 + d < 2 ^ 64 → Known s (i + 1) (v * 10 + d)
 again s i v d k h e q r = (omega arith, r, ap (λ (x : ℕ). from (v * 10 + x) (drop (i + 1) s)) q ∙ sym (from_more s i v h e) ∙ k.2)
 
-over : (s : List ℕ) (i v d : ℕ) → Known s i v → i < length s → is Digit (get_or s i 0) ≡ true → d ≡ get_or s i 0 - 48 → 2 ^ 64 ≤ v * 10 + d → Uncounted ≡ whole s
+over : (s : List ℕ) (i v d : ℕ) → Known s i v → i < length s → is Digit (get_or s i 0) ≡ true → d ≡ get_or s i 0 - 48 → 2 ^ 64 ≤ v * 10 + d → None ≡ whole s
 over s i v d k h e q r = sym (from-over s i v h e (omega arith)) ∙ k.2
 
 pub returns-then-s-eq0 : goal.returns-then-s-eq0

@@ -1,4 +1,5 @@
 -- `leaf_decimals::read_number` meets its contract. Assumes nothing.
+use Rattle.std.specs.Prelude.{Err}
 use Rattle.leaf_decimals.proofs.Value.{both-clauses}
 use mathlib.Core.Path.{sym, ap, ◌∙◌}
 use mathlib.Core.List.{List}
@@ -7,7 +8,7 @@ use native.Mathlib.Omega.{arith}
 use lib.ListN.{length, get_or}
 use lib.Dec.{eqb}
 use Rattle.leaf_digits.specs.declared.Class.TheVariants.{Sign}
-use Rattle.leaf_decimals.specs.declared.Number.TheVariants.{Malformed}
+use Rattle.leaf_decimals.specs.declared.NumberError.TheVariants.{Malformed}
 use Rattle.leaf_decimals.specs.Numbers.{unsigned, outcome}
 use Rattle.leaf_digits.proofs.Classes.{is-class, not-class}
 use Rattle.leaf_digits.proofs.Lists.{tail_of}
@@ -16,7 +17,7 @@ use Rattle.leaf_decimals.proofs.read_number.Goals as goal
 
 pub returns-then-s-eq0 : goal.returns-then-s-eq0
 returns-then-s-eq0 c =
-    let p = both-clauses c.args.s.now Malformed (sym (number-nil _ c.if-s-eq0.true)) in
+    let p = both-clauses c.args.s.now (Err Malformed) (sym (number-nil _ c.if-s-eq0.true)) in
     record { value = p.0; nearest = p.1 }
 
 pub returns-in-Sign : goal.returns-in-Sign

@@ -1,4 +1,5 @@
 -- `leaf_decimals::read_unsigned` meets its contract. Assumes nothing.
+use Rattle.std.specs.Prelude.{Ok}
 use mathlib.Core.Path.{◌≡◌, refl, sym, ap, ◌∙◌}
 use mathlib.Core.Bool.{Bool, true, false}
 use mathlib.Core.List.{List}
@@ -6,7 +7,6 @@ use Prim.Native.Nat.{ℕ, ◌≤◌}
 use native.Mathlib.Omega.{arith}
 use lib.ListN.{length}
 use lib.Ieee.{inf, nan, binary64, of_bits, div, neg}
-use Rattle.leaf_decimals.specs.declared.Number.TheVariants.{Value}
 use Rattle.leaf_decimals.specs.Reach.{signed}
 use Rattle.leaf_digits.specs.Digits.{digits, after, value}
 use Rattle.leaf_decimals.specs.Numbers.{outcome, unsigned, point}
@@ -28,14 +28,14 @@ unfolding div of_bits
 nan_is = refl
 
 pub returns-then-is_word : goal.returns-then-is_word
-returns-then-is_word c = ap Value (c.with_sign.ensures ∙ inf-is _) ∙ sym (unsigned-inf _ _ (sym c.is_word.ensures ∙ c.if-is_word.true))
+returns-then-is_word c = ap Ok (c.with_sign.ensures ∙ inf-is _) ∙ sym (unsigned-inf _ _ (sym c.is_word.ensures ∙ c.if-is_word.true))
 
 pub returns-then-is_word-2 : goal.returns-then-is_word-2
-returns-then-is_word-2 c = ap Value (c.with_sign-then-is_word-2.ensures ∙ inf-is _) ∙ sym (unsigned-infinity _ _ (sym c.is_word-then-n-eq0.ensures ∙ c.if-is_word-2.true))
+returns-then-is_word-2 c = ap Ok (c.with_sign-then-is_word-2.ensures ∙ inf-is _) ∙ sym (unsigned-infinity _ _ (sym c.is_word-then-n-eq0.ensures ∙ c.if-is_word-2.true))
 
 pub returns-then-is_word-3 : goal.returns-then-is_word-3
 returns-then-is_word-3 c =
-    ap Value nan_is ∙ sym (unsigned-nan _ _ (sym c.is_word.ensures ∙ c.if-is_word.false) (sym c.is_word-then-n-eq0.ensures ∙ c.if-is_word-2.false) (sym c.is_word-then-n-eq0-2.ensures ∙ c.if-is_word-3.true))
+    ap Ok nan_is ∙ sym (unsigned-nan _ _ (sym c.is_word.ensures ∙ c.if-is_word.false) (sym c.is_word-then-n-eq0.ensures ∙ c.if-is_word-2.false) (sym c.is_word-then-n-eq0-2.ensures ∙ c.if-is_word-3.true))
 
 pub slice_bounds-read_point-count : goal.slice_bounds-read_point-count
 slice_bounds-read_point-count c = fits-part _ _ c.leading-d.ensures.0

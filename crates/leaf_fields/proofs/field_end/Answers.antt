@@ -6,4 +6,4 @@ pub returns-in_default : goal.returns-in_default
 returns-in_default c = λ l n. past-nothing l _ _ n c.in_default.is
 
 pub returns : goal.returns
-returns c = λ l n. past-taken l _ _ n _ c.in-Taken.is
+returns c = λ l n. past-taken l _ _ n _ c.in-Some.is

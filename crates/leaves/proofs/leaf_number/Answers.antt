@@ -6,20 +6,20 @@ use Rattle.leaves.specs.Values.{value_in}
 use Rattle.leaves.proofs.Answers.{both}
 use Rattle.leaves.proofs.leaf_number.Goals as goal
 
-pub returns-in-Value : goal.returns-in-Value
+pub returns-in-Ok : goal.returns-in-Ok
 unfolding of_bits
-returns-in-Value c =
-    let p = both number_answer value_in _ _ (sym c.in-Value.is ∙ c.read_number-n.ensures.value) in
+returns-in-Ok c =
+    let p = both number_answer value_in _ _ (sym c.in-Ok.is ∙ c.read_number-n.ensures.value) in
     record { answer = p.0; value = p.1 }
 
-pub returns-in-Malformed : goal.returns-in-Malformed
+pub returns-in-Err-Malformed : goal.returns-in-Err-Malformed
 unfolding of_bits
-returns-in-Malformed c =
-    let p = both number_answer value_in _ _ (sym c.in-Malformed.is ∙ c.read_number-n.ensures.value) in
+returns-in-Err-Malformed c =
+    let p = both number_answer value_in _ _ (sym c.in-Err-Malformed.is ∙ c.read_number-n.ensures.value) in
     record { answer = p.0; value = p.1 }
 
-pub returns-in-Beyond : goal.returns-in-Beyond
+pub returns-in-Err-Beyond : goal.returns-in-Err-Beyond
 unfolding of_bits
-returns-in-Beyond c =
-    let p = both number_answer value_in _ _ (sym c.in-Beyond.is ∙ c.read_number-n.ensures.value) in
+returns-in-Err-Beyond c =
+    let p = both number_answer value_in _ _ (sym c.in-Err-Beyond.is ∙ c.read_number-n.ensures.value) in
     record { answer = p.0; value = p.1 }

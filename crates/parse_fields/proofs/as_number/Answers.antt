@@ -2,11 +2,11 @@
 
 use Rattle.parse_fields.proofs.as_number.Goals as goal
 
-pub returns-in-Value : goal.returns-in-Value
-returns-in-Value c = rw c.in-Value.is
+pub returns-in-Ok : goal.returns-in-Ok
+returns-in-Ok c = rw c.in-Ok.is
 
-pub returns-in-Malformed : goal.returns-in-Malformed
-returns-in-Malformed c = rw c.in-Malformed.is
+pub returns-in-Err-Malformed : goal.returns-in-Err-Malformed
+returns-in-Err-Malformed c = rw c.in-Err-Malformed.is
 
-pub returns-in-Beyond : goal.returns-in-Beyond
-returns-in-Beyond c = rw c.in-Beyond.is
+pub returns-in-Err-Beyond : goal.returns-in-Err-Beyond
+returns-in-Err-Beyond c = rw c.in-Err-Beyond.is

@@ -8,4 +8,4 @@ returns-in_default c = c.next_field-f.ensures.nothing c.in_default.is
 pub returns : goal.returns
 returns c =
     let a = c.args in
-    numbered-read a.l.now a.at _ c.next_field-f.ensures _ c.in-Taken.is _ c.letters_of.ensures _ c.read_number.ensures.value
+    numbered-read a.l.now a.at _ c.next_field-f.ensures _ c.in-Some.is _ c.letters_of.ensures _ c.read_number.ensures.value

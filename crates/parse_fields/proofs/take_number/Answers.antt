@@ -13,4 +13,4 @@ pub returns : goal.returns
 returns c =
     let a = c.args in
     ap (took_number a.l.now) c.as_number.ensures
-    ∙ took-next a.l.now a.at _ c.next_number-f.ensures _ _ c.in-Is.is
+    ∙ took-next a.l.now a.at _ c.next_number-f.ensures _ _ c.in-Some.is

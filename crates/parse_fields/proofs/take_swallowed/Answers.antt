@@ -12,18 +12,18 @@ returns-in_default c =
 
 pub returns-in_default-n-2 : goal.returns-in_default-n-2
 returns-in_default-n-2 c =
-    let swallowed : let a = c.args in as_swallowed a.other c.in-Is.n (fields_at a.l.now c.in-Is.end) ≡ swallowed_from a.other (fields_at a.l.now a.at) = let a = c.args in
-    swallowed-next a.l.now a.at _ c.next_number-f.ensures _ _ c.in-Is.is a.other in
-    beyond _ c.in-Is.n _ c.in_default-n.not-Value c.in_default-n-2.not-Malformed ∙ swallowed
+    let swallowed : let a = c.args in as_swallowed a.other c.in-Some.n (fields_at a.l.now c.in-Some.end) ≡ swallowed_from a.other (fields_at a.l.now a.at) = let a = c.args in
+    swallowed-next a.l.now a.at _ c.next_number-f.ensures _ _ c.in-Some.is a.other in
+    beyond _ c.in-Some.n _ c.in_default-n.not-Ok c.in_default-n-2.not-Err-Malformed ∙ swallowed
 
 pub returns-in_default-n : goal.returns-in_default-n
 returns-in_default-n c =
-    let swallowed : let a = c.args in as_swallowed a.other c.in-Is.n (fields_at a.l.now c.in-Is.end) ≡ swallowed_from a.other (fields_at a.l.now a.at) = let a = c.args in
-    swallowed-next a.l.now a.at _ c.next_number-f.ensures _ _ c.in-Is.is a.other in
-    rw c.in-Malformed.is at (swallowed)
+    let swallowed : let a = c.args in as_swallowed a.other c.in-Some.n (fields_at a.l.now c.in-Some.end) ≡ swallowed_from a.other (fields_at a.l.now a.at) = let a = c.args in
+    swallowed-next a.l.now a.at _ c.next_number-f.ensures _ _ c.in-Some.is a.other in
+    rw c.in-Err-Malformed.is at (swallowed)
 
 pub returns : goal.returns
 returns c =
-    let swallowed : let a = c.args in as_swallowed a.other c.in-Is.n (fields_at a.l.now c.in-Is.end) ≡ swallowed_from a.other (fields_at a.l.now a.at) = let a = c.args in
-    swallowed-next a.l.now a.at _ c.next_number-f.ensures _ _ c.in-Is.is a.other in
-    rw c.in-Value.is at (swallowed)
+    let swallowed : let a = c.args in as_swallowed a.other c.in-Some.n (fields_at a.l.now c.in-Some.end) ≡ swallowed_from a.other (fields_at a.l.now a.at) = let a = c.args in
+    swallowed-next a.l.now a.at _ c.next_number-f.ensures _ _ c.in-Some.is a.other in
+    rw c.in-Ok.is at (swallowed)

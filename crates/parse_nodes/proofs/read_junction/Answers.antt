@@ -18,27 +18,27 @@ returns-in_default c = rw (c.next_field-f.ensures.nothing c.in_default.is)
 pub returns-in_default-height : goal.returns-in_default-height
 unfolding junction_of
 returns-in_default-height c =
-    let s1 : let a = c.args in let l = a.l.now in (fields_at l a.at ≡ name_in l c.in-Taken.id ∷ fields_at l c.in-Taken.id.end) × Fits l c.in-Taken.id = c.next_field-f.ensures.taken _ c.in-Taken.is in
+    let s1 : let a = c.args in let l = a.l.now in (fields_at l a.at ≡ name_in l c.in-Some.id ∷ fields_at l c.in-Some.id.end) × Fits l c.in-Some.id = c.next_field-f.ensures.taken _ c.in-Some.is in
     let a = c.args in
     rw ((s1).0, told-number a.l.now c.take_number_or-height.ensures c.in_default-height.is) (told-why c.reason_of.ensures c.in_default-height.is)
 
 pub returns-in_default-amount : goal.returns-in_default-amount
 unfolding junction_of Ieee.of_bits
 returns-in_default-amount c =
-    let s1 : let a = c.args in let l = a.l.now in (fields_at l a.at ≡ name_in l c.in-Taken.id ∷ fields_at l c.in-Taken.id.end) × Fits l c.in-Taken.id = c.next_field-f.ensures.taken _ c.in-Taken.is in
-    let s2 : let a = c.args in let l = a.l.now in number_or zero_text (fields_at l c.in-Taken.id.end) ≡ took c.in-Number.elevation (fields_at l c.in-Number.at2) = let a = c.args in
-    told-number a.l.now c.take_number_or-height.ensures c.in-Number.is in
+    let s1 : let a = c.args in let l = a.l.now in (fields_at l a.at ≡ name_in l c.in-Some.id ∷ fields_at l c.in-Some.id.end) × Fits l c.in-Some.id = c.next_field-f.ensures.taken _ c.in-Some.is in
+    let s2 : let a = c.args in let l = a.l.now in number_or zero_text (fields_at l c.in-Some.id.end) ≡ took c.in-Ok.elevation (fields_at l c.in-Ok.at2) = let a = c.args in
+    told-number a.l.now c.take_number_or-height.ensures c.in-Ok.is in
     let a = c.args in
     rw ((s1).0, s2, told-number a.l.now c.take_swallowed-amount.ensures c.in_default-amount.is) (told-why c.reason_of-in_default-amount.ensures c.in_default-amount.is)
 
-pub returns-in-Flag : goal.returns-in-Flag
+pub returns-in-Ok : goal.returns-in-Ok
 unfolding junction_of Ieee.of_bits
-returns-in-Flag c =
-    let s1 : let a = c.args in let l = a.l.now in (fields_at l a.at ≡ name_in l c.in-Taken.id ∷ fields_at l c.in-Taken.id.end) × Fits l c.in-Taken.id = c.next_field-f.ensures.taken _ c.in-Taken.is in
-    let s2 : let a = c.args in let l = a.l.now in number_or zero_text (fields_at l c.in-Taken.id.end) ≡ took c.in-Number.elevation (fields_at l c.in-Number.at2) = let a = c.args in
-    told-number a.l.now c.take_number_or-height.ensures c.in-Number.is in
-    let s3 : let a = c.args in let l = a.l.now in swallowed_from zero_f (fields_at l c.in-Number.at2) ≡ took c.in-Number-amount.demand (fields_at l c.in-Number-amount.at3) = let a = c.args in
-    told-number a.l.now c.take_swallowed-amount.ensures c.in-Number-amount.is in
+returns-in-Ok c =
+    let s1 : let a = c.args in let l = a.l.now in (fields_at l a.at ≡ name_in l c.in-Some.id ∷ fields_at l c.in-Some.id.end) × Fits l c.in-Some.id = c.next_field-f.ensures.taken _ c.in-Some.is in
+    let s2 : let a = c.args in let l = a.l.now in number_or zero_text (fields_at l c.in-Some.id.end) ≡ took c.in-Ok.elevation (fields_at l c.in-Ok.at2) = let a = c.args in
+    told-number a.l.now c.take_number_or-height.ensures c.in-Ok.is in
+    let s3 : let a = c.args in let l = a.l.now in swallowed_from zero_f (fields_at l c.in-Ok.at2) ≡ took c.in-Ok-amount.demand (fields_at l c.in-Ok-amount.at3) = let a = c.args in
+    told-number a.l.now c.take_swallowed-amount.ensures c.in-Ok-amount.is in
     let a = c.args in (
       rw (
         (s1).0,
@@ -46,20 +46,20 @@ returns-in-Flag c =
         s3,
         optional c.next_field-pattern.result c.next_field-pattern.ensures,
         ← (c.field_end-at4.ensures _ c.next_field-pattern.ensures).left,
-        sym c.take_flag-off.ensures ∙ ap (took_flag a.l.now) c.in-Flag.is,
+        sym c.take_flag-off.ensures ∙ ap (took_flag a.l.now) c.in-Ok.is,
       ),
       (s1).1,
       may-fit c.next_field-pattern.result c.next_field-pattern.ensures,
     )
 
-pub returns-in-NoFlag : goal.returns-in-NoFlag
+pub returns-in-Err : goal.returns-in-Err
 unfolding junction_of Ieee.of_bits
-returns-in-NoFlag c =
-    let s1 : let a = c.args in let l = a.l.now in (fields_at l a.at ≡ name_in l c.in-Taken.id ∷ fields_at l c.in-Taken.id.end) × Fits l c.in-Taken.id = c.next_field-f.ensures.taken _ c.in-Taken.is in
-    let s2 : let a = c.args in let l = a.l.now in number_or zero_text (fields_at l c.in-Taken.id.end) ≡ took c.in-Number.elevation (fields_at l c.in-Number.at2) = let a = c.args in
-    told-number a.l.now c.take_number_or-height.ensures c.in-Number.is in
-    let s3 : let a = c.args in let l = a.l.now in swallowed_from zero_f (fields_at l c.in-Number.at2) ≡ took c.in-Number-amount.demand (fields_at l c.in-Number-amount.at3) = let a = c.args in
-    told-number a.l.now c.take_swallowed-amount.ensures c.in-Number-amount.is in
+returns-in-Err c =
+    let s1 : let a = c.args in let l = a.l.now in (fields_at l a.at ≡ name_in l c.in-Some.id ∷ fields_at l c.in-Some.id.end) × Fits l c.in-Some.id = c.next_field-f.ensures.taken _ c.in-Some.is in
+    let s2 : let a = c.args in let l = a.l.now in number_or zero_text (fields_at l c.in-Some.id.end) ≡ took c.in-Ok.elevation (fields_at l c.in-Ok.at2) = let a = c.args in
+    told-number a.l.now c.take_number_or-height.ensures c.in-Ok.is in
+    let s3 : let a = c.args in let l = a.l.now in swallowed_from zero_f (fields_at l c.in-Ok.at2) ≡ took c.in-Ok-amount.demand (fields_at l c.in-Ok-amount.at3) = let a = c.args in
+    told-number a.l.now c.take_swallowed-amount.ensures c.in-Ok-amount.is in
     let a = c.args in
     rw (
       (s1).0,
@@ -67,5 +67,5 @@ returns-in-NoFlag c =
       s3,
       optional c.next_field-pattern.result c.next_field-pattern.ensures,
       ← (c.field_end-at4.ensures _ c.next_field-pattern.ensures).left,
-      sym c.take_flag-off.ensures ∙ ap (took_flag a.l.now) c.in-NoFlag.is,
+      sym c.take_flag-off.ensures ∙ ap (took_flag a.l.now) c.in-Err.is,
     )

@@ -10,16 +10,16 @@ pub returns-in_default : goal.returns-in_default
 unfolding emitter_of
 returns-in_default c = rw (c.next_field-f.ensures.nothing c.in_default.is)
 
-pub returns-in-Number : goal.returns-in-Number
+pub returns-in-Ok : goal.returns-in-Ok
 unfolding emitter_of
-returns-in-Number c =
-    let s1 : let a = c.args in let l = a.l.now in (fields_at l a.at ≡ name_in l c.in-Taken.id ∷ fields_at l c.in-Taken.id.end) × Fits l c.in-Taken.id = c.next_field-f.ensures.taken _ c.in-Taken.is in
+returns-in-Ok c =
+    let s1 : let a = c.args in let l = a.l.now in (fields_at l a.at ≡ name_in l c.in-Some.id ∷ fields_at l c.in-Some.id.end) × Fits l c.in-Some.id = c.next_field-f.ensures.taken _ c.in-Some.is in
     let a = c.args in
-    (rw ((s1).0, told-number a.l.now c.take_number-first.ensures c.in-Number.is), (s1).1)
+    (rw ((s1).0, told-number a.l.now c.take_number-first.ensures c.in-Ok.is), (s1).1)
 
-pub returns-in-NoNumber : goal.returns-in-NoNumber
+pub returns-in-Err : goal.returns-in-Err
 unfolding emitter_of
-returns-in-NoNumber c =
-    let s1 : let a = c.args in let l = a.l.now in (fields_at l a.at ≡ name_in l c.in-Taken.id ∷ fields_at l c.in-Taken.id.end) × Fits l c.in-Taken.id = c.next_field-f.ensures.taken _ c.in-Taken.is in
+returns-in-Err c =
+    let s1 : let a = c.args in let l = a.l.now in (fields_at l a.at ≡ name_in l c.in-Some.id ∷ fields_at l c.in-Some.id.end) × Fits l c.in-Some.id = c.next_field-f.ensures.taken _ c.in-Some.is in
     let a = c.args in
-    rw ((s1).0, told-number a.l.now c.take_number-first.ensures c.in-NoNumber.is)
+    rw ((s1).0, told-number a.l.now c.take_number-first.ensures c.in-Err.is)

@@ -13,22 +13,22 @@ returns-in_default c = rw (c.next_field-f.ensures.nothing c.in_default.is)
 pub returns-in_default-first : goal.returns-in_default-first
 unfolding pair_of
 returns-in_default-first c =
-    let s1 : let a = c.args in let l = a.l.now in (fields_at l a.at ≡ name_in l c.in-Taken.id ∷ fields_at l c.in-Taken.id.end) × Fits l c.in-Taken.id = c.next_field-f.ensures.taken _ c.in-Taken.is in
+    let s1 : let a = c.args in let l = a.l.now in (fields_at l a.at ≡ name_in l c.in-Some.id ∷ fields_at l c.in-Some.id.end) × Fits l c.in-Some.id = c.next_field-f.ensures.taken _ c.in-Some.is in
     let a = c.args in
     rw ((s1).0, told-number a.l.now c.take_number-first.ensures c.in_default-first.is) (told-why c.reason_of.ensures c.in_default-first.is)
 
-pub returns-in-Number-second : goal.returns-in-Number-second
+pub returns-in-Ok-second : goal.returns-in-Ok-second
 unfolding pair_of
-returns-in-Number-second c =
-    let s1 : let a = c.args in let l = a.l.now in (fields_at l a.at ≡ name_in l c.in-Taken.id ∷ fields_at l c.in-Taken.id.end) × Fits l c.in-Taken.id = c.next_field-f.ensures.taken _ c.in-Taken.is in
-    let s2 : let a = c.args in let l = a.l.now in number_from (fields_at l c.in-Taken.id.end) ≡ took c.in-Number.x (fields_at l c.in-Number.at2) = told-number c.args.l.now c.take_number-first.ensures c.in-Number.is in
+returns-in-Ok-second c =
+    let s1 : let a = c.args in let l = a.l.now in (fields_at l a.at ≡ name_in l c.in-Some.id ∷ fields_at l c.in-Some.id.end) × Fits l c.in-Some.id = c.next_field-f.ensures.taken _ c.in-Some.is in
+    let s2 : let a = c.args in let l = a.l.now in number_from (fields_at l c.in-Some.id.end) ≡ took c.in-Ok.x (fields_at l c.in-Ok.at2) = told-number c.args.l.now c.take_number-first.ensures c.in-Ok.is in
     let a = c.args in
-    (rw ((s1).0, s2, told-number a.l.now c.take_number-second.ensures c.in-Number-second.is), (s1).1)
+    (rw ((s1).0, s2, told-number a.l.now c.take_number-second.ensures c.in-Ok-second.is), (s1).1)
 
-pub returns-in-NoNumber : goal.returns-in-NoNumber
+pub returns-in-Err : goal.returns-in-Err
 unfolding pair_of
-returns-in-NoNumber c =
-    let s1 : let a = c.args in let l = a.l.now in (fields_at l a.at ≡ name_in l c.in-Taken.id ∷ fields_at l c.in-Taken.id.end) × Fits l c.in-Taken.id = c.next_field-f.ensures.taken _ c.in-Taken.is in
-    let s2 : let a = c.args in let l = a.l.now in number_from (fields_at l c.in-Taken.id.end) ≡ took c.in-Number.x (fields_at l c.in-Number.at2) = told-number c.args.l.now c.take_number-first.ensures c.in-Number.is in
+returns-in-Err c =
+    let s1 : let a = c.args in let l = a.l.now in (fields_at l a.at ≡ name_in l c.in-Some.id ∷ fields_at l c.in-Some.id.end) × Fits l c.in-Some.id = c.next_field-f.ensures.taken _ c.in-Some.is in
+    let s2 : let a = c.args in let l = a.l.now in number_from (fields_at l c.in-Some.id.end) ≡ took c.in-Ok.x (fields_at l c.in-Ok.at2) = told-number c.args.l.now c.take_number-first.ensures c.in-Ok.is in
     let a = c.args in
-    rw ((s1).0, s2, told-number a.l.now c.take_number-second.ensures c.in-NoNumber.is)
+    rw ((s1).0, s2, told-number a.l.now c.take_number-second.ensures c.in-Err.is)

@@ -9,15 +9,15 @@ returns-in_default c = rw (c.next_field-f.ensures.nothing c.in_default.is)
 
 pub returns-then-spells : goal.returns-then-spells
 returns-then-spells c =
-    let field : let a = c.args in let l = a.l.now in (fields_at l a.at ≡ name_in l c.in-Taken.s ∷ fields_at l c.in-Taken.s.end) × Fits l c.in-Taken.s = c.next_field-f.ensures.taken _ c.in-Taken.is in
+    let field : let a = c.args in let l = a.l.now in (fields_at l a.at ≡ name_in l c.in-Some.s ∷ fields_at l c.in-Some.s.end) × Fits l c.in-Some.s = c.next_field-f.ensures.taken _ c.in-Some.is in
     rw ((field).0, ← c.letters_of-word.ensures, sym c.spells.ensures ∙ c.if-spells.true)
 
 pub returns-then-spells-2 : goal.returns-then-spells-2
 returns-then-spells-2 c =
-    let field : let a = c.args in let l = a.l.now in (fields_at l a.at ≡ name_in l c.in-Taken.s ∷ fields_at l c.in-Taken.s.end) × Fits l c.in-Taken.s = c.next_field-f.ensures.taken _ c.in-Taken.is in
+    let field : let a = c.args in let l = a.l.now in (fields_at l a.at ≡ name_in l c.in-Some.s ∷ fields_at l c.in-Some.s.end) × Fits l c.in-Some.s = c.next_field-f.ensures.taken _ c.in-Some.is in
     rw ((field).0, ← c.letters_of-word.ensures, sym c.spells.ensures ∙ c.if-spells.false, sym c.spells-2.ensures ∙ c.if-spells-2.true)
 
 pub returns : goal.returns
 returns c =
-    let field : let a = c.args in let l = a.l.now in (fields_at l a.at ≡ name_in l c.in-Taken.s ∷ fields_at l c.in-Taken.s.end) × Fits l c.in-Taken.s = c.next_field-f.ensures.taken _ c.in-Taken.is in
+    let field : let a = c.args in let l = a.l.now in (fields_at l a.at ≡ name_in l c.in-Some.s ∷ fields_at l c.in-Some.s.end) × Fits l c.in-Some.s = c.next_field-f.ensures.taken _ c.in-Some.is in
     rw ((field).0, ← c.letters_of-word.ensures, sym c.spells.ensures ∙ c.if-spells.false, sym c.spells-2.ensures ∙ c.if-spells-2.false)

@@ -1,11 +1,12 @@
 -- `parse_pumps::with_pair` meets its contract. Assumes nothing.
+use Rattle.leaf_decimals.specs.declared.NumberError.{NumberError}
+use Rattle.std.specs.Prelude.{Result, Float}
 use Prim.Native.Nat.{ℕ}
 use mathlib.Core.Path.{◌≡◌, refl, sym, ap, ◌∙◌}
 use mathlib.Core.Bool.{Bool, true, false}
 use mathlib.Core.List.{List, []}
 use lib.Ieee as Ieee
 use Rattle.leaf_decimals.specs.Numbers.{number_of}
-use Rattle.leaf_decimals.specs.declared.Number.{Number}
 use Rattle.leaf_fields.specs.Fields.{Name, name_in}
 use Rattle.leaf_letters.specs.Words.{same}
 use Rattle.scope.specs.Spelling.{word_speed, word_head, word_power}
@@ -19,7 +20,7 @@ use Rattle.parse_pumps.proofs.PumpLaws.{told-word, speed-pair, head-pair, power-
 use Rattle.parse_pumps.proofs.with_pair.Goals as goal
 
 -- what the number after SPEED or POWER makes: w and v are the word and the value, a and b their letters as they were read
-module _ (p : records.Pump) (w v : Name) {a b : List ℕ} {r : Bool} {n m : Number} (ew : a ≡ w.letters) (en : n ≡ number_of b) (ev : b ≡ v.letters) (em : n ≡ m) where
+module _ (p : records.Pump) (w v : Name) {a b : List ℕ} {r : Bool} {n m : Result Float NumberError} (ew : a ≡ w.letters) (en : n ≡ number_of b) (ev : b ≡ v.letters) (em : n ≡ m) where
   speed : r ≡ same a word_speed → r ≡ true → with_pair p w v ≡ with_speed p (as_swallowed one_f m [])
   speed h is = speed-pair p w v (told-word word_speed ew h is) (en ∙ ap number_of ev) em
 
@@ -31,14 +32,14 @@ returns-in_default-n c = λ own fit.
     let a = c.args in
     let p = pump_in a.l.now a.p in
     let made = speed p (name_in a.l.now a.word) (name_in a.l.now a.value) c.letters_of-name.ensures c.read_number-n.ensures.value c.letters_of.ensures refl c.equal.ensures c.if-equal.true in
-    made ∙ ap (with_speed p) (sym (beyond one_f c.read_number-n.result [] c.in_default.not-Value c.in_default-n.not-Malformed))
+    made ∙ ap (with_speed p) (sym (beyond one_f c.read_number-n.result [] c.in_default.not-Ok c.in_default-n.not-Err-Malformed))
 
 pub returns-in_default : goal.returns-in_default
 unfolding Ieee.of_bits
 returns-in_default c = λ own fit.
     let a = c.args in
     let l = a.l.now in (
-      speed (pump_in l a.p) (name_in l a.word) (name_in l a.value) c.letters_of-name.ensures c.read_number-n.ensures.value c.letters_of.ensures c.in-Malformed.is c.equal.ensures c.if-equal.true,
+      speed (pump_in l a.p) (name_in l a.word) (name_in l a.value) c.letters_of-name.ensures c.read_number-n.ensures.value c.letters_of.ensures c.in-Err-Malformed.is c.equal.ensures c.if-equal.true,
       own,
     )
 
@@ -46,7 +47,7 @@ pub returns-then-equal : goal.returns-then-equal
 returns-then-equal c = λ own fit.
     let a = c.args in
     let l = a.l.now in (
-      speed (pump_in l a.p) (name_in l a.word) (name_in l a.value) c.letters_of-name.ensures c.read_number-n.ensures.value c.letters_of.ensures c.in-Value.is c.equal.ensures c.if-equal.true,
+      speed (pump_in l a.p) (name_in l a.word) (name_in l a.value) c.letters_of-name.ensures c.read_number-n.ensures.value c.letters_of.ensures c.in-Ok.is c.equal.ensures c.if-equal.true,
       own,
     )
 
@@ -65,7 +66,7 @@ returns-in_default-n-3 c = λ own fit.
     let no-speed = told-word word_speed c.letters_of-name.ensures c.equal.ensures c.if-equal.false in
     let no-head = told-word word_head c.letters_of-name.ensures c.equal-2.ensures c.if-equal-2.false in
     let made = power p (name_in a.l.now a.word) (name_in a.l.now a.value) c.letters_of-name.ensures c.read_number-n-then-equal-3.ensures.value c.letters_of-then-equal-3.ensures refl no-speed no-head c.equal-3.ensures c.if-equal-3.true in
-    made ∙ ap (with_power p) (sym (beyond zero_f c.read_number-n-then-equal-3.result [] c.in_default-n-2.not-Value c.in_default-n-3.not-Malformed))
+    made ∙ ap (with_power p) (sym (beyond zero_f c.read_number-n-then-equal-3.result [] c.in_default-n-2.not-Ok c.in_default-n-3.not-Err-Malformed))
 
 pub returns-in_default-n-2 : goal.returns-in_default-n-2
 unfolding Ieee.of_bits
@@ -74,7 +75,7 @@ returns-in_default-n-2 c = λ own fit.
     let l = a.l.now in
     let no-speed = told-word word_speed c.letters_of-name.ensures c.equal.ensures c.if-equal.false in
     let no-head = told-word word_head c.letters_of-name.ensures c.equal-2.ensures c.if-equal-2.false in (
-      power (pump_in l a.p) (name_in l a.word) (name_in l a.value) c.letters_of-name.ensures c.read_number-n-then-equal-3.ensures.value c.letters_of-then-equal-3.ensures c.in-Malformed-n.is no-speed no-head c.equal-3.ensures c.if-equal-3.true,
+      power (pump_in l a.p) (name_in l a.word) (name_in l a.value) c.letters_of-name.ensures c.read_number-n-then-equal-3.ensures.value c.letters_of-then-equal-3.ensures c.in-Err-Malformed-n.is no-speed no-head c.equal-3.ensures c.if-equal-3.true,
       own,
     )
 
@@ -84,7 +85,7 @@ returns-then-equal-3 c = λ own fit.
     let l = a.l.now in
     let no-speed = told-word word_speed c.letters_of-name.ensures c.equal.ensures c.if-equal.false in
     let no-head = told-word word_head c.letters_of-name.ensures c.equal-2.ensures c.if-equal-2.false in (
-      power (pump_in l a.p) (name_in l a.word) (name_in l a.value) c.letters_of-name.ensures c.read_number-n-then-equal-3.ensures.value c.letters_of-then-equal-3.ensures c.in-Value-n.is no-speed no-head c.equal-3.ensures c.if-equal-3.true,
+      power (pump_in l a.p) (name_in l a.word) (name_in l a.value) c.letters_of-name.ensures c.read_number-n-then-equal-3.ensures.value c.letters_of-then-equal-3.ensures c.in-Ok-n.is no-speed no-head c.equal-3.ensures c.if-equal-3.true,
       own,
     )
 

@@ -16,25 +16,25 @@ returns-in_default c =
 pub returns-in_default-second : goal.returns-in_default-second
 unfolding levels_of
 returns-in_default-second c =
-    let s1 : let a = c.args in let l = a.l.now in number_from (fields_at l a.at) ≡ took c.in-Number.initial (fields_at l c.in-Number.at2) = told-number c.args.l.now c.take_number-first.ensures c.in-Number.is in
+    let s1 : let a = c.args in let l = a.l.now in number_from (fields_at l a.at) ≡ took c.in-Ok.initial (fields_at l c.in-Ok.at2) = told-number c.args.l.now c.take_number-first.ensures c.in-Ok.is in
     let a = c.args in
     λ fit. rw (s1, told-number a.l.now c.take_number-second.ensures c.in_default-second.is) (told-why c.reason_of-in_default-second.ensures c.in_default-second.is)
 
 pub returns-in_default-third : goal.returns-in_default-third
 unfolding levels_of
 returns-in_default-third c =
-    let s1 : let a = c.args in let l = a.l.now in number_from (fields_at l a.at) ≡ took c.in-Number.initial (fields_at l c.in-Number.at2) = told-number c.args.l.now c.take_number-first.ensures c.in-Number.is in
-    let s2 : let a = c.args in let l = a.l.now in number_from (fields_at l c.in-Number.at2) ≡ took c.in-Number-second.minimum (fields_at l c.in-Number-second.at3) = told-number c.args.l.now c.take_number-second.ensures c.in-Number-second.is in
+    let s1 : let a = c.args in let l = a.l.now in number_from (fields_at l a.at) ≡ took c.in-Ok.initial (fields_at l c.in-Ok.at2) = told-number c.args.l.now c.take_number-first.ensures c.in-Ok.is in
+    let s2 : let a = c.args in let l = a.l.now in number_from (fields_at l c.in-Ok.at2) ≡ took c.in-Ok-second.minimum (fields_at l c.in-Ok-second.at3) = told-number c.args.l.now c.take_number-second.ensures c.in-Ok-second.is in
     let a = c.args in
     λ fit. rw (s1, s2, told-number a.l.now c.take_number-third.ensures c.in_default-third.is) (told-why c.reason_of-in_default-third.ensures c.in_default-third.is)
 
 pub returns-in_default-fourth : goal.returns-in_default-fourth
 unfolding levels_of
 returns-in_default-fourth c =
-    let s1 : let a = c.args in let l = a.l.now in number_from (fields_at l a.at) ≡ took c.in-Number.initial (fields_at l c.in-Number.at2) = told-number c.args.l.now c.take_number-first.ensures c.in-Number.is in
-    let s2 : let a = c.args in let l = a.l.now in number_from (fields_at l c.in-Number.at2) ≡ took c.in-Number-second.minimum (fields_at l c.in-Number-second.at3) = told-number c.args.l.now c.take_number-second.ensures c.in-Number-second.is in
-    let s3 : let a = c.args in let l = a.l.now in number_from (fields_at l c.in-Number-second.at3) ≡ took c.in-Number-third.maximum (fields_at l c.in-Number-third.at4) = let a = c.args in
-    told-number a.l.now c.take_number-third.ensures c.in-Number-third.is in
+    let s1 : let a = c.args in let l = a.l.now in number_from (fields_at l a.at) ≡ took c.in-Ok.initial (fields_at l c.in-Ok.at2) = told-number c.args.l.now c.take_number-first.ensures c.in-Ok.is in
+    let s2 : let a = c.args in let l = a.l.now in number_from (fields_at l c.in-Ok.at2) ≡ took c.in-Ok-second.minimum (fields_at l c.in-Ok-second.at3) = told-number c.args.l.now c.take_number-second.ensures c.in-Ok-second.is in
+    let s3 : let a = c.args in let l = a.l.now in number_from (fields_at l c.in-Ok-second.at3) ≡ took c.in-Ok-third.maximum (fields_at l c.in-Ok-third.at4) = let a = c.args in
+    told-number a.l.now c.take_number-third.ensures c.in-Ok-third.is in
     let a = c.args in
     λ fit. rw (s1, s2, s3, told-number a.l.now c.take_number-fourth.ensures c.in_default-fourth.is)
     (told-why c.reason_of-in_default-fourth.ensures c.in_default-fourth.is)
@@ -42,12 +42,12 @@ returns-in_default-fourth c =
 pub returns-in_default-fifth : goal.returns-in_default-fifth
 unfolding levels_of
 returns-in_default-fifth c =
-    let s1 : let a = c.args in let l = a.l.now in number_from (fields_at l a.at) ≡ took c.in-Number.initial (fields_at l c.in-Number.at2) = told-number c.args.l.now c.take_number-first.ensures c.in-Number.is in
-    let s2 : let a = c.args in let l = a.l.now in number_from (fields_at l c.in-Number.at2) ≡ took c.in-Number-second.minimum (fields_at l c.in-Number-second.at3) = told-number c.args.l.now c.take_number-second.ensures c.in-Number-second.is in
-    let s3 : let a = c.args in let l = a.l.now in number_from (fields_at l c.in-Number-second.at3) ≡ took c.in-Number-third.maximum (fields_at l c.in-Number-third.at4) = let a = c.args in
-    told-number a.l.now c.take_number-third.ensures c.in-Number-third.is in
-    let s4 : let a = c.args in let l = a.l.now in number_from (fields_at l c.in-Number-third.at4) ≡ took c.in-Number-fourth.diameter (fields_at l c.in-Number-fourth.at5) = let a = c.args in
-    told-number a.l.now c.take_number-fourth.ensures c.in-Number-fourth.is in
+    let s1 : let a = c.args in let l = a.l.now in number_from (fields_at l a.at) ≡ took c.in-Ok.initial (fields_at l c.in-Ok.at2) = told-number c.args.l.now c.take_number-first.ensures c.in-Ok.is in
+    let s2 : let a = c.args in let l = a.l.now in number_from (fields_at l c.in-Ok.at2) ≡ took c.in-Ok-second.minimum (fields_at l c.in-Ok-second.at3) = told-number c.args.l.now c.take_number-second.ensures c.in-Ok-second.is in
+    let s3 : let a = c.args in let l = a.l.now in number_from (fields_at l c.in-Ok-second.at3) ≡ took c.in-Ok-third.maximum (fields_at l c.in-Ok-third.at4) = let a = c.args in
+    told-number a.l.now c.take_number-third.ensures c.in-Ok-third.is in
+    let s4 : let a = c.args in let l = a.l.now in number_from (fields_at l c.in-Ok-third.at4) ≡ took c.in-Ok-fourth.diameter (fields_at l c.in-Ok-fourth.at5) = let a = c.args in
+    told-number a.l.now c.take_number-fourth.ensures c.in-Ok-fourth.is in
     let a = c.args in
     λ fit. rw (s1, s2, s3, s4, told-number a.l.now c.take_number_or-fifth.ensures c.in_default-fifth.is)
     (told-why c.reason_of-in_default-fifth.ensures c.in_default-fifth.is)
@@ -55,12 +55,12 @@ returns-in_default-fifth c =
 pub returns : goal.returns
 unfolding levels_of
 returns c =
-    let s1 : let a = c.args in let l = a.l.now in number_from (fields_at l a.at) ≡ took c.in-Number.initial (fields_at l c.in-Number.at2) = told-number c.args.l.now c.take_number-first.ensures c.in-Number.is in
-    let s2 : let a = c.args in let l = a.l.now in number_from (fields_at l c.in-Number.at2) ≡ took c.in-Number-second.minimum (fields_at l c.in-Number-second.at3) = told-number c.args.l.now c.take_number-second.ensures c.in-Number-second.is in
-    let s3 : let a = c.args in let l = a.l.now in number_from (fields_at l c.in-Number-second.at3) ≡ took c.in-Number-third.maximum (fields_at l c.in-Number-third.at4) = let a = c.args in
-    told-number a.l.now c.take_number-third.ensures c.in-Number-third.is in
-    let s4 : let a = c.args in let l = a.l.now in number_from (fields_at l c.in-Number-third.at4) ≡ took c.in-Number-fourth.diameter (fields_at l c.in-Number-fourth.at5) = let a = c.args in
-    told-number a.l.now c.take_number-fourth.ensures c.in-Number-fourth.is in
-    let s5 : let a = c.args in let l = a.l.now in number_or zero_text (fields_at l c.in-Number-fourth.at5) ≡ took c.in-Number-fifth.volume (fields_at l c.in-Number-fifth.at6) = let a = c.args in
-    told-number a.l.now c.take_number_or-fifth.ensures c.in-Number-fifth.is in
+    let s1 : let a = c.args in let l = a.l.now in number_from (fields_at l a.at) ≡ took c.in-Ok.initial (fields_at l c.in-Ok.at2) = told-number c.args.l.now c.take_number-first.ensures c.in-Ok.is in
+    let s2 : let a = c.args in let l = a.l.now in number_from (fields_at l c.in-Ok.at2) ≡ took c.in-Ok-second.minimum (fields_at l c.in-Ok-second.at3) = told-number c.args.l.now c.take_number-second.ensures c.in-Ok-second.is in
+    let s3 : let a = c.args in let l = a.l.now in number_from (fields_at l c.in-Ok-second.at3) ≡ took c.in-Ok-third.maximum (fields_at l c.in-Ok-third.at4) = let a = c.args in
+    told-number a.l.now c.take_number-third.ensures c.in-Ok-third.is in
+    let s4 : let a = c.args in let l = a.l.now in number_from (fields_at l c.in-Ok-third.at4) ≡ took c.in-Ok-fourth.diameter (fields_at l c.in-Ok-fourth.at5) = let a = c.args in
+    told-number a.l.now c.take_number-fourth.ensures c.in-Ok-fourth.is in
+    let s5 : let a = c.args in let l = a.l.now in number_or zero_text (fields_at l c.in-Ok-fourth.at5) ≡ took c.in-Ok-fifth.volume (fields_at l c.in-Ok-fifth.at6) = let a = c.args in
+    told-number a.l.now c.take_number_or-fifth.ensures c.in-Ok-fifth.is in
     λ fit. (rw (s1, s2, s3, s4, s5, c.take_curve-curve.ensures.0, ← c.past_field-at7.ensures.left, ← c.take_overflow-overflow.ensures), fit, c.take_curve-curve.ensures.1)

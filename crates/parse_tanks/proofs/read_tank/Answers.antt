@@ -15,20 +15,20 @@ returns-in_default c = rw (c.next_field-f.ensures.nothing c.in_default.is)
 pub returns-in_default-height : goal.returns-in_default-height
 unfolding tank_of
 returns-in_default-height c =
-    let s1 : let a = c.args in let l = a.l.now in (fields_at l a.at ≡ name_in l c.in-Taken.id ∷ fields_at l c.in-Taken.id.end) × Fits l c.in-Taken.id = c.next_field-f.ensures.taken _ c.in-Taken.is in
+    let s1 : let a = c.args in let l = a.l.now in (fields_at l a.at ≡ name_in l c.in-Some.id ∷ fields_at l c.in-Some.id.end) × Fits l c.in-Some.id = c.next_field-f.ensures.taken _ c.in-Some.is in
     let a = c.args in
     rw ((s1).0, told-number a.l.now c.take_number-height.ensures c.in_default-height.is) (told-why c.reason_of.ensures c.in_default-height.is)
 
-pub returns-in-Taken-more : goal.returns-in-Taken-more
+pub returns-in-Some-more : goal.returns-in-Some-more
 unfolding tank_of
-returns-in-Taken-more c =
-    let s1 : let a = c.args in let l = a.l.now in (fields_at l a.at ≡ name_in l c.in-Taken.id ∷ fields_at l c.in-Taken.id.end) × Fits l c.in-Taken.id = c.next_field-f.ensures.taken _ c.in-Taken.is in
-    let s2 : let a = c.args in let l = a.l.now in number_from (fields_at l c.in-Taken.id.end) ≡ took c.in-Number.elevation (fields_at l c.in-Number.at2) = told-number c.args.l.now c.take_number-height.ensures c.in-Number.is in
-    rw ((s1).0, s2, or-levels _ _ _ _ _ (c.next_field-more.ensures.taken _ c.in-Taken-more.is).0) (c.read_levels.ensures (s1).1)
+returns-in-Some-more c =
+    let s1 : let a = c.args in let l = a.l.now in (fields_at l a.at ≡ name_in l c.in-Some.id ∷ fields_at l c.in-Some.id.end) × Fits l c.in-Some.id = c.next_field-f.ensures.taken _ c.in-Some.is in
+    let s2 : let a = c.args in let l = a.l.now in number_from (fields_at l c.in-Some.id.end) ≡ took c.in-Ok.elevation (fields_at l c.in-Ok.at2) = told-number c.args.l.now c.take_number-height.ensures c.in-Ok.is in
+    rw ((s1).0, s2, or-levels _ _ _ _ _ (c.next_field-more.ensures.taken _ c.in-Some-more.is).0) (c.read_levels.ensures (s1).1)
 
-pub returns-in-Nothing : goal.returns-in-Nothing
+pub returns-in-None : goal.returns-in-None
 unfolding tank_of
-returns-in-Nothing c =
-    let s1 : let a = c.args in let l = a.l.now in (fields_at l a.at ≡ name_in l c.in-Taken.id ∷ fields_at l c.in-Taken.id.end) × Fits l c.in-Taken.id = c.next_field-f.ensures.taken _ c.in-Taken.is in
-    let s2 : let a = c.args in let l = a.l.now in number_from (fields_at l c.in-Taken.id.end) ≡ took c.in-Number.elevation (fields_at l c.in-Number.at2) = told-number c.args.l.now c.take_number-height.ensures c.in-Number.is in
-    (rw ((s1).0, s2, c.next_field-more.ensures.nothing c.in-Nothing.is, c.in-Nothing.is), (s1).1, may-fit c.next_field-more.result c.next_field-more.ensures)
+returns-in-None c =
+    let s1 : let a = c.args in let l = a.l.now in (fields_at l a.at ≡ name_in l c.in-Some.id ∷ fields_at l c.in-Some.id.end) × Fits l c.in-Some.id = c.next_field-f.ensures.taken _ c.in-Some.is in
+    let s2 : let a = c.args in let l = a.l.now in number_from (fields_at l c.in-Some.id.end) ≡ took c.in-Ok.elevation (fields_at l c.in-Ok.at2) = told-number c.args.l.now c.take_number-height.ensures c.in-Ok.is in
+    (rw ((s1).0, s2, c.next_field-more.ensures.nothing c.in-None.is, c.in-None.is), (s1).1, may-fit c.next_field-more.result c.next_field-more.ensures)

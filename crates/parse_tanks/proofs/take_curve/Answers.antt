@@ -9,10 +9,10 @@ returns-in_default c = (rw (c.next_field-f.ensures.nothing c.in_default.is), tt)
 
 pub returns-then-equal : goal.returns-then-equal
 returns-then-equal c =
-    let field : let a = c.args in let l = a.l.now in (fields_at l a.at ≡ name_in l c.in-Taken.s ∷ fields_at l c.in-Taken.s.end) × Fits l c.in-Taken.s = c.next_field-f.ensures.taken _ c.in-Taken.is in
+    let field : let a = c.args in let l = a.l.now in (fields_at l a.at ≡ name_in l c.in-Some.s ∷ fields_at l c.in-Some.s.end) × Fits l c.in-Some.s = c.next_field-f.ensures.taken _ c.in-Some.is in
     (rw ((field).0, ← c.letters_of.ensures, sym c.equal.ensures ∙ c.if-equal.true), tt)
 
 pub returns : goal.returns
 returns c =
-    let field : let a = c.args in let l = a.l.now in (fields_at l a.at ≡ name_in l c.in-Taken.s ∷ fields_at l c.in-Taken.s.end) × Fits l c.in-Taken.s = c.next_field-f.ensures.taken _ c.in-Taken.is in
+    let field : let a = c.args in let l = a.l.now in (fields_at l a.at ≡ name_in l c.in-Some.s ∷ fields_at l c.in-Some.s.end) × Fits l c.in-Some.s = c.next_field-f.ensures.taken _ c.in-Some.is in
     (rw ((field).0, ← c.letters_of.ensures, sym c.equal.ensures ∙ c.if-equal.false), (field).1)

@@ -22,18 +22,18 @@ returns-in_default c =
 pub returns-in_default-second : goal.returns-in_default-second
 unfolding valve_after_type Ieee.of_bits
 returns-in_default-second c =
-    let s1 : let a = c.args in let l = a.l.now in (setting_from a.kind (fields_at l a.at) ≡ took (record { value = c.in-Setting.setting; curve = opt_in l c.in-Setting.own }) (fields_at l c.in-Setting.at2)) × MayFit l c.in-Setting.own = let a = c.args in
+    let s1 : let a = c.args in let l = a.l.now in (setting_from a.kind (fields_at l a.at) ≡ took (record { value = c.in-Ok.setting; curve = opt_in l c.in-Ok.own }) (fields_at l c.in-Ok.at2)) × MayFit l c.in-Ok.own = let a = c.args in
     let l = a.l.now in
-    told-setting l (setting_from a.kind (fields_at l a.at)) c.in-Setting.is c.take_setting-first.ensures in
+    told-setting l (setting_from a.kind (fields_at l a.at)) c.in-Ok.is c.take_setting-first.ensures in
     let a = c.args in
     λ fit. rw ((s1).0, told-number a.l.now c.take_swallowed-second.ensures c.in_default-second.is) (told-why c.reason_of.ensures c.in_default-second.is)
 
 pub returns : goal.returns
 unfolding valve_after_type Ieee.of_bits
 returns c =
-    let s1 : let a = c.args in let l = a.l.now in (setting_from a.kind (fields_at l a.at) ≡ took (record { value = c.in-Setting.setting; curve = opt_in l c.in-Setting.own }) (fields_at l c.in-Setting.at2)) × MayFit l c.in-Setting.own = let a = c.args in
+    let s1 : let a = c.args in let l = a.l.now in (setting_from a.kind (fields_at l a.at) ≡ took (record { value = c.in-Ok.setting; curve = opt_in l c.in-Ok.own }) (fields_at l c.in-Ok.at2)) × MayFit l c.in-Ok.own = let a = c.args in
     let l = a.l.now in
-    told-setting l (setting_from a.kind (fields_at l a.at)) c.in-Setting.is c.take_setting-first.ensures in
-    let s2 : let a = c.args in let l = a.l.now in swallowed_from zero_f (fields_at l c.in-Setting.at2) ≡ took c.in-Number.minor (fields_at l c.in-Number.at3) = let a = c.args in
-    told-number a.l.now c.take_swallowed-second.ensures c.in-Number.is in
+    told-setting l (setting_from a.kind (fields_at l a.at)) c.in-Ok.is c.take_setting-first.ensures in
+    let s2 : let a = c.args in let l = a.l.now in swallowed_from zero_f (fields_at l c.in-Ok.at2) ≡ took c.in-Ok.minor (fields_at l c.in-Ok.at3) = let a = c.args in
+    told-number a.l.now c.take_swallowed-second.ensures c.in-Ok.is in
     λ fit. (rw ((s1).0, s2, c.take_overriding-curve.ensures.is), fit, c.take_overriding-curve.ensures.fits (s1).1)

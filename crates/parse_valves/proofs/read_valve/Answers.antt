@@ -21,38 +21,38 @@ returns-in_default c =
 pub returns-in_default-first : goal.returns-in_default-first
 unfolding valve_of
 returns-in_default-first c =
-    let s1 : let a = c.args in let l = a.l.now in (fields_at l a.at ≡ name_in l c.in-Names.names.id ∷ name_in l c.in-Names.names.start ∷ name_in l c.in-Names.names.end ∷ fields_at l c.in-Names.names.end.end) × NamesFit l c.in-Names.names = let a = c.args in
+    let s1 : let a = c.args in let l = a.l.now in (fields_at l a.at ≡ name_in l c.in-Ok.names.id ∷ name_in l c.in-Ok.names.start ∷ name_in l c.in-Ok.names.end ∷ fields_at l c.in-Ok.names.end.end) × NamesFit l c.in-Ok.names = let a = c.args in
     let l = a.l.now in
-    told_names l (fields_at l a.at) c.in-Names.is c.read_names-three.ensures in
+    told_names l (fields_at l a.at) c.in-Ok.is c.read_names-three.ensures in
     let a = c.args in
     rw ((s1).0, told-number a.l.now c.take_number-first.ensures c.in_default-first.is) (told-why c.reason_of.ensures c.in_default-first.is)
 
 pub returns-in_default-f : goal.returns-in_default-f
 unfolding valve_of
 returns-in_default-f c =
-    let s1 : let a = c.args in let l = a.l.now in (fields_at l a.at ≡ name_in l c.in-Names.names.id ∷ name_in l c.in-Names.names.start ∷ name_in l c.in-Names.names.end ∷ fields_at l c.in-Names.names.end.end) × NamesFit l c.in-Names.names = let a = c.args in
+    let s1 : let a = c.args in let l = a.l.now in (fields_at l a.at ≡ name_in l c.in-Ok.names.id ∷ name_in l c.in-Ok.names.start ∷ name_in l c.in-Ok.names.end ∷ fields_at l c.in-Ok.names.end.end) × NamesFit l c.in-Ok.names = let a = c.args in
     let l = a.l.now in
-    told_names l (fields_at l a.at) c.in-Names.is c.read_names-three.ensures in
-    let s2 : let a = c.args in let l = a.l.now in number_from (fields_at l c.in-Names.names.end.end) ≡ took c.in-Number.diameter (fields_at l c.in-Number.at2) = told-number c.args.l.now c.take_number-first.ensures c.in-Number.is in
+    told_names l (fields_at l a.at) c.in-Ok.is c.read_names-three.ensures in
+    let s2 : let a = c.args in let l = a.l.now in number_from (fields_at l c.in-Ok.names.end.end) ≡ took c.in-Ok.diameter (fields_at l c.in-Ok.at2) = told-number c.args.l.now c.take_number-first.ensures c.in-Ok.is in
     rw ((s1).0, s2, c.next_field-f.ensures.nothing c.in_default-f.is)
 
 pub returns-in_default-known : goal.returns-in_default-known
 unfolding valve_of
 returns-in_default-known c =
-    let s1 : let a = c.args in let l = a.l.now in (fields_at l a.at ≡ name_in l c.in-Names.names.id ∷ name_in l c.in-Names.names.start ∷ name_in l c.in-Names.names.end ∷ fields_at l c.in-Names.names.end.end) × NamesFit l c.in-Names.names = let a = c.args in
+    let s1 : let a = c.args in let l = a.l.now in (fields_at l a.at ≡ name_in l c.in-Ok.names.id ∷ name_in l c.in-Ok.names.start ∷ name_in l c.in-Ok.names.end ∷ fields_at l c.in-Ok.names.end.end) × NamesFit l c.in-Ok.names = let a = c.args in
     let l = a.l.now in
-    told_names l (fields_at l a.at) c.in-Names.is c.read_names-three.ensures in
-    let s2 : let a = c.args in let l = a.l.now in number_from (fields_at l c.in-Names.names.end.end) ≡ took c.in-Number.diameter (fields_at l c.in-Number.at2) = told-number c.args.l.now c.take_number-first.ensures c.in-Number.is in
-    let s3 : let a = c.args in let l = a.l.now in (fields_at l c.in-Number.at2 ≡ name_in l c.in-Taken.word ∷ fields_at l c.in-Taken.word.end) × Fits l c.in-Taken.word = c.next_field-f.ensures.taken _ c.in-Taken.is in
+    told_names l (fields_at l a.at) c.in-Ok.is c.read_names-three.ensures in
+    let s2 : let a = c.args in let l = a.l.now in number_from (fields_at l c.in-Ok.names.end.end) ≡ took c.in-Ok.diameter (fields_at l c.in-Ok.at2) = told-number c.args.l.now c.take_number-first.ensures c.in-Ok.is in
+    let s3 : let a = c.args in let l = a.l.now in (fields_at l c.in-Ok.at2 ≡ name_in l c.in-Some.word ∷ fields_at l c.in-Some.word.end) × Fits l c.in-Some.word = c.next_field-f.ensures.taken _ c.in-Some.is in
     rw ((s1).0, s2, (s3).0, told-type c.letters_of.ensures c.in_default-known.is c.read_type-known.ensures)
 
 pub returns : goal.returns
 unfolding valve_of valve_after_type
 returns c =
-    let s1 : let a = c.args in let l = a.l.now in (fields_at l a.at ≡ name_in l c.in-Names.names.id ∷ name_in l c.in-Names.names.start ∷ name_in l c.in-Names.names.end ∷ fields_at l c.in-Names.names.end.end) × NamesFit l c.in-Names.names = let a = c.args in
+    let s1 : let a = c.args in let l = a.l.now in (fields_at l a.at ≡ name_in l c.in-Ok.names.id ∷ name_in l c.in-Ok.names.start ∷ name_in l c.in-Ok.names.end ∷ fields_at l c.in-Ok.names.end.end) × NamesFit l c.in-Ok.names = let a = c.args in
     let l = a.l.now in
-    told_names l (fields_at l a.at) c.in-Names.is c.read_names-three.ensures in
-    let s2 : let a = c.args in let l = a.l.now in number_from (fields_at l c.in-Names.names.end.end) ≡ took c.in-Number.diameter (fields_at l c.in-Number.at2) = told-number c.args.l.now c.take_number-first.ensures c.in-Number.is in
-    let s3 : let a = c.args in let l = a.l.now in (fields_at l c.in-Number.at2 ≡ name_in l c.in-Taken.word ∷ fields_at l c.in-Taken.word.end) × Fits l c.in-Taken.word = c.next_field-f.ensures.taken _ c.in-Taken.is in
-    let s4 : let a = c.args in type_of (name_in a.l.now c.in-Taken.word).letters ≡ good c.in-Type.kind = told-type c.letters_of.ensures c.in-Type.is c.read_type-known.ensures in
+    told_names l (fields_at l a.at) c.in-Ok.is c.read_names-three.ensures in
+    let s2 : let a = c.args in let l = a.l.now in number_from (fields_at l c.in-Ok.names.end.end) ≡ took c.in-Ok.diameter (fields_at l c.in-Ok.at2) = told-number c.args.l.now c.take_number-first.ensures c.in-Ok.is in
+    let s3 : let a = c.args in let l = a.l.now in (fields_at l c.in-Ok.at2 ≡ name_in l c.in-Some.word ∷ fields_at l c.in-Some.word.end) × Fits l c.in-Some.word = c.next_field-f.ensures.taken _ c.in-Some.is in
+    let s4 : let a = c.args in type_of (name_in a.l.now c.in-Some.word).letters ≡ good c.in-Some.kind = told-type c.letters_of.ensures c.in-Some.is c.read_type-known.ensures in
     rw ((s1).0, s2, (s3).0, s4) (c.read_after_type.ensures (s1).1)

@@ -2,10 +2,10 @@
 
 use Rattle.parse_valves.proofs.take_overriding.Goals as goal
 
-pub returns-in-Taken : goal.returns-in-Taken
-returns-in-Taken c =
-    let h = c.next_field-f.ensures.taken _ c.in-Taken.is in
+pub returns-in-Some : goal.returns-in-Some
+returns-in-Some c =
+    let h = c.next_field-f.ensures.taken _ c.in-Some.is in
     record { is = rw h.0; fits = λ own. h.1 }
 
-pub returns-in-Nothing : goal.returns-in-Nothing
-returns-in-Nothing c = record { is = rw (c.next_field-f.ensures.nothing c.in-Nothing.is); fits = λ own. own }
+pub returns-in-None : goal.returns-in-None
+returns-in-None c = record { is = rw (c.next_field-f.ensures.nothing c.in-None.is); fits = λ own. own }

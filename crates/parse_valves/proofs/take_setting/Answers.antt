@@ -11,18 +11,18 @@ returns-in_default-curve c = no-curve-set c.next_field-curve.result c.in-Gpv.is 
 
 pub returns-in-Gpv : goal.returns-in-Gpv
 unfolding Ieee.of_bits
-returns-in-Gpv c = curve-set _ c.in-Gpv.is c.next_field-curve.ensures c.in-Taken.is
+returns-in-Gpv c = curve-set _ c.in-Gpv.is c.next_field-curve.ensures c.in-Some.is
 
-pub returns-in-Number : goal.returns-in-Number
+pub returns-in-Ok : goal.returns-in-Ok
 unfolding Ieee.of_bits
-returns-in-Number c =
+returns-in-Ok c =
     let a = c.args in
     let l = a.l.now in
-    (rw (number-set a.kind (fields_at l a.at) c.in_default.not-Gpv, told-number l c.take_swallowed-t.ensures c.in-Number.is), tt)
+    (rw (number-set a.kind (fields_at l a.at) c.in_default.not-Gpv, told-number l c.take_swallowed-t.ensures c.in-Ok.is), tt)
 
-pub returns-in-NoNumber : goal.returns-in-NoNumber
+pub returns-in-Err : goal.returns-in-Err
 unfolding Ieee.of_bits
-returns-in-NoNumber c =
+returns-in-Err c =
     let a = c.args in
     let l = a.l.now in
-    rw (number-set a.kind (fields_at l a.at) c.in_default.not-Gpv, told-number l c.take_swallowed-t.ensures c.in-NoNumber.is)
+    rw (number-set a.kind (fields_at l a.at) c.in_default.not-Gpv, told-number l c.take_swallowed-t.ensures c.in-Err.is)

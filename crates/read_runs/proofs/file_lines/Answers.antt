@@ -56,10 +56,10 @@ loop-t-preserved c =
     let d = sym is-data.ensures ∙ if2.true in
     let g = loop.invariant in
     let h = if1.true in
-    stored g h z.0 q.1 q.2 q.3 z.1 d Store-Line.ensures c.in-Stored.is c.moved-t.ensures
+    stored g h z.0 q.1 q.2 q.3 z.1 d Store-Line.ensures c.in-Ok.is c.moved-t.ensures
 
-pub shape_of-words-in-Refused : goal.shape_of-words-in-Refused
-shape_of-words-in-Refused c =
+pub shape_of-words-in-Err : goal.shape_of-words-in-Err
+shape_of-words-in-Err c =
     let Store-Line = c.store_line-kept in
     let loop = c.loop-t in
     let pre = c.requires in
@@ -67,8 +67,8 @@ shape_of-words-in-Refused c =
     ∙ holds-words loop.invariant.ready.stands.recs
     ∙ sym (holds-words pre.0.stands.recs)
 
-pub shape_of-numbers-in-Refused : goal.shape_of-numbers-in-Refused
-shape_of-numbers-in-Refused c =
+pub shape_of-numbers-in-Err : goal.shape_of-numbers-in-Err
+shape_of-numbers-in-Err c =
     let Store-Line = c.store_line-kept in
     let loop = c.loop-t in
     let pre = c.requires in
@@ -76,8 +76,8 @@ shape_of-numbers-in-Refused c =
     ∙ holds-numbers loop.invariant.ready.stands.recs
     ∙ sym (holds-numbers pre.0.stands.recs)
 
-pub returns-in-Refused : goal.returns-in-Refused
-returns-in-Refused c =
+pub returns-in-Err : goal.returns-in-Err
+returns-in-Err c =
     let pre = c.requires in
     let line-ends = c.line_ends-ends in
     let is-data = c.is_data in
@@ -90,7 +90,7 @@ returns-in-Refused c =
     let d = sym is-data.ensures ∙ if2.true in
     let g = loop.invariant in
     let h = if1.true in
-    unstored g h z.0 q.1 q.2 q.3 z.1 d Store-Line.ensures c.in-Refused.is c.reason_number.ensures
+    unstored g h z.0 q.1 q.2 q.3 z.1 d Store-Line.ensures c.in-Err.is c.reason_number.ensures
 
 pub shape_of-words-else-is_data : goal.shape_of-words-else-is_data
 shape_of-words-else-is_data c =

@@ -1,4 +1,5 @@
 -- `read_sections::store_line` meets its contract. Assumes nothing.
+use Rattle.std.specs.Prelude.{Ok}
 use Prim.Native.Nat.{ℕ}
 use mathlib.Core.Path.{refl, ap}
 use mathlib.Core.List.{List}
@@ -7,11 +8,10 @@ use Rattle.scope.specs.declared.Counts.{Counts}
 use Rattle.scope.specs.Records.{Network}
 use Rattle.scope.specs.Values.{good}
 use Rattle.table_rows.specs.Holding.{Holds, After}
-use Rattle.table_rows.specs.declared.Kept.TheVariants.{Stored}
 use Rattle.read_sections.proofs.store_line.Goals as goal
 
-unchanged : {text w : List ℕ} {f : List Float} {m : Network} {s : Counts} → Holds text m s w f → After text (good m) (Stored s) w f w f
-unchanged h = (ap Stored h.counts, record { counts = refl; words = h.words; numbers = h.numbers })
+unchanged : {text w : List ℕ} {f : List Float} {m : Network} {s : Counts} → Holds text m s w f → After text (good m) (Ok s) w f w f
+unchanged h = (ap Ok h.counts, record { counts = refl; words = h.words; numbers = h.numbers })
 
 pub junction_line-requires : goal.junction_line-requires
 junction_line-requires c = c.requires

@@ -6,17 +6,17 @@ use Rattle.read_steps.proofs.close.Goals as goal
 pub close_group-k-requires : goal.close_group-k-requires
 close_group-k-requires c = sound c.requires.0.stands
 
-pub returns-in-Stored : goal.returns-in-Stored
-returns-in-Stored c =
+pub returns-in-Ok : goal.returns-in-Ok
+returns-in-Ok c =
     let pre = c.requires in
     let args = c.args in
     let close-group = c.close_group-k in
-    way-closed pre.0 pre.1 args.dropped pre.2 close-group.ensures c.in-Stored.is c.shut.ensures c.own_class.ensures
+    way-closed pre.0 pre.1 args.dropped pre.2 close-group.ensures c.in-Ok.is c.shut.ensures c.own_class.ensures
 
-pub returns-in-Refused : goal.returns-in-Refused
-returns-in-Refused c =
+pub returns-in-Err : goal.returns-in-Err
+returns-in-Err c =
     let pre = c.requires in
     let args = c.args in
     let close-group = c.close_group-k in
-    let shut2 = c.shut-in-Refused in
-    way-rejected pre.0 pre.1 args.dropped pre.2 close-group.ensures c.in-Refused.is shut2.ensures c.own_class-in-Refused.ensures c.reason_number.ensures
+    let shut2 = c.shut-in-Err in
+    way-rejected pre.0 pre.1 args.dropped pre.2 close-group.ensures c.in-Err.is shut2.ensures c.own_class-in-Err.ensures c.reason_number.ensures

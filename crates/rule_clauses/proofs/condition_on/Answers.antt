@@ -17,36 +17,36 @@ returns-in_default c =
 pub returns-in_default-word : goal.returns-in_default-word
 unfolding condition_on
 returns-in_default-word c =
-    let field : let a = c.args in let l = a.l.now in (fields_at l a.aim.next ≡ name_in l c.in-Taken.s ∷ fields_at l c.in-Taken.s.end) × Fits l c.in-Taken.s = c.next_field-f.ensures.taken _ c.in-Taken.is in
+    let field : let a = c.args in let l = a.l.now in (fields_at l a.aim.next ≡ name_in l c.in-Some.s ∷ fields_at l c.in-Some.s.end) × Fits l c.in-Some.s = c.next_field-f.ensures.taken _ c.in-Some.is in
     record {
       result_value = rw ((field).0, ← c.letters_of.ensures, sym c.read_comparison-word.ensures ∙ ap comparison_read c.in_default-word.is);
       condition_fits = λ fit. tt;
     }
 
-pub returns-in-Read : goal.returns-in-Read
+pub returns-in-Ok : goal.returns-in-Ok
 unfolding condition_on
-returns-in-Read c =
-    let field : let a = c.args in let l = a.l.now in (fields_at l a.aim.next ≡ name_in l c.in-Taken.s ∷ fields_at l c.in-Taken.s.end) × Fits l c.in-Taken.s = c.next_field-f.ensures.taken _ c.in-Taken.is in
+returns-in-Ok c =
+    let field : let a = c.args in let l = a.l.now in (fields_at l a.aim.next ≡ name_in l c.in-Some.s ∷ fields_at l c.in-Some.s.end) × Fits l c.in-Some.s = c.next_field-f.ensures.taken _ c.in-Some.is in
     record {
       result_value = rw (
         (field).0,
         ← c.letters_of.ensures,
-        sym c.read_comparison-word.ensures ∙ ap comparison_read c.in-Known.is,
-        sym c.read_value-read.ensures ∙ ap value_read c.in-Read.is,
+        sym c.read_comparison-word.ensures ∙ ap comparison_read c.in-Some.is,
+        sym c.read_value-read.ensures ∙ ap value_read c.in-Ok.is,
       );
       condition_fits = λ fit. fit;
     }
 
-pub returns-in-Refused : goal.returns-in-Refused
+pub returns-in-Err : goal.returns-in-Err
 unfolding condition_on
-returns-in-Refused c =
-    let field : let a = c.args in let l = a.l.now in (fields_at l a.aim.next ≡ name_in l c.in-Taken.s ∷ fields_at l c.in-Taken.s.end) × Fits l c.in-Taken.s = c.next_field-f.ensures.taken _ c.in-Taken.is in
+returns-in-Err c =
+    let field : let a = c.args in let l = a.l.now in (fields_at l a.aim.next ≡ name_in l c.in-Some.s ∷ fields_at l c.in-Some.s.end) × Fits l c.in-Some.s = c.next_field-f.ensures.taken _ c.in-Some.is in
     record {
       result_value = rw (
         (field).0,
         ← c.letters_of.ensures,
-        sym c.read_comparison-word.ensures ∙ ap comparison_read c.in-Known.is,
-        sym c.read_value-read.ensures ∙ ap value_read c.in-Refused.is,
+        sym c.read_comparison-word.ensures ∙ ap comparison_read c.in-Some.is,
+        sym c.read_value-read.ensures ∙ ap value_read c.in-Err.is,
       );
       condition_fits = λ fit. tt;
     }

@@ -15,30 +15,30 @@ returns-in_default c =
 
 pub returns-in_default-g : goal.returns-in_default-g
 returns-in_default-g c =
-    let field : let a = c.args in let l = a.l.now in (fields_at l a.at ≡ name_in l c.in-Taken.id ∷ fields_at l c.in-Taken.id.end) × Fits l c.in-Taken.id = c.next_field-f.ensures.taken _ c.in-Taken.is in
+    let field : let a = c.args in let l = a.l.now in (fields_at l a.at ≡ name_in l c.in-Some.id ∷ fields_at l c.in-Some.id.end) × Fits l c.in-Some.id = c.next_field-f.ensures.taken _ c.in-Some.is in
     record {
       result_value = rw ((field).0, c.next_field-g.ensures.nothing c.in_default-g.is);
       target_fits = tt;
     }
 
-pub returns-in-Known : goal.returns-in-Known
-returns-in-Known c =
-    let field : let a = c.args in let l = a.l.now in (fields_at l a.at ≡ name_in l c.in-Taken.id ∷ fields_at l c.in-Taken.id.end) × Fits l c.in-Taken.id = c.next_field-f.ensures.taken _ c.in-Taken.is in
-    let field2 : let a = c.args in let l = a.l.now in (fields_at l c.in-Taken.id.end ≡ name_in l c.in-Taken-g.s ∷ fields_at l c.in-Taken-g.s.end) × Fits l c.in-Taken-g.s = c.next_field-g.ensures.taken _ c.in-Taken-g.is in
+pub returns-in-Some : goal.returns-in-Some
+returns-in-Some c =
+    let field : let a = c.args in let l = a.l.now in (fields_at l a.at ≡ name_in l c.in-Some.id ∷ fields_at l c.in-Some.id.end) × Fits l c.in-Some.id = c.next_field-f.ensures.taken _ c.in-Some.is in
+    let field2 : let a = c.args in let l = a.l.now in (fields_at l c.in-Some.id.end ≡ name_in l c.in-Some-g.s ∷ fields_at l c.in-Some-g.s.end) × Fits l c.in-Some-g.s = c.next_field-g.ensures.taken _ c.in-Some-g.is in
     let a = c.args in
     record {
       result_value = sym (named-is a.kind a.l.now a.at _ _ _ (field).0 (field2).0
-          (sym (ap (attribute_of a.kind) c.letters_of.ensures) ∙ sym c.attribute-read.ensures ∙ ap attribute_read c.in-Known.is));
+          (sym (ap (attribute_of a.kind) c.letters_of.ensures) ∙ sym c.attribute-read.ensures ∙ ap attribute_read c.in-Some.is));
       target_fits = (field).1;
     }
 
-pub returns-in-Unknown : goal.returns-in-Unknown
-returns-in-Unknown c =
-    let field : let a = c.args in let l = a.l.now in (fields_at l a.at ≡ name_in l c.in-Taken.id ∷ fields_at l c.in-Taken.id.end) × Fits l c.in-Taken.id = c.next_field-f.ensures.taken _ c.in-Taken.is in
-    let field2 : let a = c.args in let l = a.l.now in (fields_at l c.in-Taken.id.end ≡ name_in l c.in-Taken-g.s ∷ fields_at l c.in-Taken-g.s.end) × Fits l c.in-Taken-g.s = c.next_field-g.ensures.taken _ c.in-Taken-g.is in
+pub returns-in-None : goal.returns-in-None
+returns-in-None c =
+    let field : let a = c.args in let l = a.l.now in (fields_at l a.at ≡ name_in l c.in-Some.id ∷ fields_at l c.in-Some.id.end) × Fits l c.in-Some.id = c.next_field-f.ensures.taken _ c.in-Some.is in
+    let field2 : let a = c.args in let l = a.l.now in (fields_at l c.in-Some.id.end ≡ name_in l c.in-Some-g.s ∷ fields_at l c.in-Some-g.s.end) × Fits l c.in-Some-g.s = c.next_field-g.ensures.taken _ c.in-Some-g.is in
     let a = c.args in
     record {
       result_value = sym (named-is a.kind a.l.now a.at _ _ _ (field).0 (field2).0
-          (sym (ap (attribute_of a.kind) c.letters_of.ensures) ∙ sym c.attribute-read.ensures ∙ ap attribute_read c.in-Unknown.is));
+          (sym (ap (attribute_of a.kind) c.letters_of.ensures) ∙ sym c.attribute-read.ensures ∙ ap attribute_read c.in-None.is));
       target_fits = tt;
     }

@@ -16,7 +16,7 @@ returns-in_default c =
 pub returns-then-equal : goal.returns-then-equal
 unfolding aim_from
 returns-then-equal c =
-    let field : let a = c.args in let l = a.l.now in (fields_at l a.at ≡ name_in l c.in-Taken.s ∷ fields_at l c.in-Taken.s.end) × Fits l c.in-Taken.s = c.next_field-f.ensures.taken _ c.in-Taken.is in
+    let field : let a = c.args in let l = a.l.now in (fields_at l a.at ≡ name_in l c.in-Some.s ∷ fields_at l c.in-Some.s.end) × Fits l c.in-Some.s = c.next_field-f.ensures.taken _ c.in-Some.is in
     record {
       result_value = rw ((field).0, ← c.letters_of-w.ensures, sym c.equal.ensures ∙ c.if-equal.true) c.system_from.ensures.result_value;
       target_fits = c.system_from.ensures.target_fits;
@@ -25,7 +25,7 @@ returns-then-equal c =
 pub returns-then-equal-2 : goal.returns-then-equal-2
 unfolding aim_from
 returns-then-equal-2 c =
-    let field : let a = c.args in let l = a.l.now in (fields_at l a.at ≡ name_in l c.in-Taken.s ∷ fields_at l c.in-Taken.s.end) × Fits l c.in-Taken.s = c.next_field-f.ensures.taken _ c.in-Taken.is in
+    let field : let a = c.args in let l = a.l.now in (fields_at l a.at ≡ name_in l c.in-Some.s ∷ fields_at l c.in-Some.s.end) × Fits l c.in-Some.s = c.next_field-f.ensures.taken _ c.in-Some.is in
     record {
       result_value = rw ((field).0, ← c.letters_of-w.ensures, sym c.equal.ensures ∙ c.if-equal.false, sym c.equal-2.ensures ∙ c.if-equal-2.true)
           c.named_from.ensures.result_value;
@@ -35,7 +35,7 @@ returns-then-equal-2 c =
 pub returns-then-equal-3 : goal.returns-then-equal-3
 unfolding aim_from
 returns-then-equal-3 c =
-    let field : let a = c.args in let l = a.l.now in (fields_at l a.at ≡ name_in l c.in-Taken.s ∷ fields_at l c.in-Taken.s.end) × Fits l c.in-Taken.s = c.next_field-f.ensures.taken _ c.in-Taken.is in
+    let field : let a = c.args in let l = a.l.now in (fields_at l a.at ≡ name_in l c.in-Some.s ∷ fields_at l c.in-Some.s.end) × Fits l c.in-Some.s = c.next_field-f.ensures.taken _ c.in-Some.is in
     record {
       result_value = rw (
         (field).0,
@@ -50,7 +50,7 @@ returns-then-equal-3 c =
 pub returns-then-is_link_word : goal.returns-then-is_link_word
 unfolding aim_from
 returns-then-is_link_word c =
-    let field : let a = c.args in let l = a.l.now in (fields_at l a.at ≡ name_in l c.in-Taken.s ∷ fields_at l c.in-Taken.s.end) × Fits l c.in-Taken.s = c.next_field-f.ensures.taken _ c.in-Taken.is in
+    let field : let a = c.args in let l = a.l.now in (fields_at l a.at ≡ name_in l c.in-Some.s ∷ fields_at l c.in-Some.s.end) × Fits l c.in-Some.s = c.next_field-f.ensures.taken _ c.in-Some.is in
     record {
       result_value = rw (
         (field).0,
@@ -66,7 +66,7 @@ returns-then-is_link_word c =
 pub returns : goal.returns
 unfolding aim_from
 returns c =
-    let field : let a = c.args in let l = a.l.now in (fields_at l a.at ≡ name_in l c.in-Taken.s ∷ fields_at l c.in-Taken.s.end) × Fits l c.in-Taken.s = c.next_field-f.ensures.taken _ c.in-Taken.is in
+    let field : let a = c.args in let l = a.l.now in (fields_at l a.at ≡ name_in l c.in-Some.s ∷ fields_at l c.in-Some.s.end) × Fits l c.in-Some.s = c.next_field-f.ensures.taken _ c.in-Some.is in
     record {
       result_value = rw (
         (field).0,

@@ -12,19 +12,19 @@ returns-in_default c = rw (c.next_field-f.ensures.nothing c.in_default.is)
 pub returns-then-equal : goal.returns-then-equal
 unfolding value_of
 returns-then-equal c =
-    let field : let a = c.args in let l = a.l.now in (fields_at l a.at ≡ name_in l c.in-Taken.s ∷ fields_at l c.in-Taken.s.end) × Fits l c.in-Taken.s = c.next_field-f.ensures.taken _ c.in-Taken.is in
+    let field : let a = c.args in let l = a.l.now in (fields_at l a.at ≡ name_in l c.in-Some.s ∷ fields_at l c.in-Some.s.end) × Fits l c.in-Some.s = c.next_field-f.ensures.taken _ c.in-Some.is in
     rw ((field).0, ← c.letters_of-w.ensures, sym c.equal.ensures ∙ c.if-equal.true)
 
 pub returns-then-equal-2 : goal.returns-then-equal-2
 unfolding value_of
 returns-then-equal-2 c =
-    let field : let a = c.args in let l = a.l.now in (fields_at l a.at ≡ name_in l c.in-Taken.s ∷ fields_at l c.in-Taken.s.end) × Fits l c.in-Taken.s = c.next_field-f.ensures.taken _ c.in-Taken.is in
+    let field : let a = c.args in let l = a.l.now in (fields_at l a.at ≡ name_in l c.in-Some.s ∷ fields_at l c.in-Some.s.end) × Fits l c.in-Some.s = c.next_field-f.ensures.taken _ c.in-Some.is in
     rw ((field).0, ← c.letters_of-w.ensures, sym c.equal.ensures ∙ c.if-equal.false, sym c.equal-2.ensures ∙ c.if-equal-2.true)
 
 pub returns-then-equal-3 : goal.returns-then-equal-3
 unfolding value_of
 returns-then-equal-3 c =
-    let field : let a = c.args in let l = a.l.now in (fields_at l a.at ≡ name_in l c.in-Taken.s ∷ fields_at l c.in-Taken.s.end) × Fits l c.in-Taken.s = c.next_field-f.ensures.taken _ c.in-Taken.is in
+    let field : let a = c.args in let l = a.l.now in (fields_at l a.at ≡ name_in l c.in-Some.s ∷ fields_at l c.in-Some.s.end) × Fits l c.in-Some.s = c.next_field-f.ensures.taken _ c.in-Some.is in
     rw (
       (field).0,
       ← c.letters_of-w.ensures,
@@ -36,7 +36,7 @@ returns-then-equal-3 c =
 pub returns-then-is_time : goal.returns-then-is_time
 unfolding value_of
 returns-then-is_time c =
-    let field : let a = c.args in let l = a.l.now in (fields_at l a.at ≡ name_in l c.in-Taken.s ∷ fields_at l c.in-Taken.s.end) × Fits l c.in-Taken.s = c.next_field-f.ensures.taken _ c.in-Taken.is in
+    let field : let a = c.args in let l = a.l.now in (fields_at l a.at ≡ name_in l c.in-Some.s ∷ fields_at l c.in-Some.s.end) × Fits l c.in-Some.s = c.next_field-f.ensures.taken _ c.in-Some.is in
     rw (
       (field).0,
       ← c.letters_of-w.ensures,
@@ -50,7 +50,7 @@ returns-then-is_time c =
 pub returns : goal.returns
 unfolding value_of
 returns c =
-    let field : let a = c.args in let l = a.l.now in (fields_at l a.at ≡ name_in l c.in-Taken.s ∷ fields_at l c.in-Taken.s.end) × Fits l c.in-Taken.s = c.next_field-f.ensures.taken _ c.in-Taken.is in
+    let field : let a = c.args in let l = a.l.now in (fields_at l a.at ≡ name_in l c.in-Some.s ∷ fields_at l c.in-Some.s.end) × Fits l c.in-Some.s = c.next_field-f.ensures.taken _ c.in-Some.is in
     rw (
       (field).0,
       ← c.letters_of-w.ensures,

@@ -12,18 +12,18 @@ returns-in_default c =
       target_fits = tt;
     }
 
-pub returns-in-Known : goal.returns-in-Known
-returns-in-Known c =
-    let field : let a = c.args in let l = a.l.now in (fields_at l a.at ≡ name_in l c.in-Taken.s ∷ fields_at l c.in-Taken.s.end) × Fits l c.in-Taken.s = c.next_field-f.ensures.taken _ c.in-Taken.is in
+pub returns-in-Some : goal.returns-in-Some
+returns-in-Some c =
+    let field : let a = c.args in let l = a.l.now in (fields_at l a.at ≡ name_in l c.in-Some.s ∷ fields_at l c.in-Some.s.end) × Fits l c.in-Some.s = c.next_field-f.ensures.taken _ c.in-Some.is in
     record {
-      result_value = rw ((field).0, ← c.letters_of.ensures, sym c.system_target-read.ensures ∙ ap attribute_read c.in-Known.is);
+      result_value = rw ((field).0, ← c.letters_of.ensures, sym c.system_target-read.ensures ∙ ap attribute_read c.in-Some.is);
       target_fits = tt;
     }
 
-pub returns-in-Unknown : goal.returns-in-Unknown
-returns-in-Unknown c =
-    let field : let a = c.args in let l = a.l.now in (fields_at l a.at ≡ name_in l c.in-Taken.s ∷ fields_at l c.in-Taken.s.end) × Fits l c.in-Taken.s = c.next_field-f.ensures.taken _ c.in-Taken.is in
+pub returns-in-None : goal.returns-in-None
+returns-in-None c =
+    let field : let a = c.args in let l = a.l.now in (fields_at l a.at ≡ name_in l c.in-Some.s ∷ fields_at l c.in-Some.s.end) × Fits l c.in-Some.s = c.next_field-f.ensures.taken _ c.in-Some.is in
     record {
-      result_value = rw ((field).0, ← c.letters_of.ensures, sym c.system_target-read.ensures ∙ ap attribute_read c.in-Unknown.is);
+      result_value = rw ((field).0, ← c.letters_of.ensures, sym c.system_target-read.ensures ∙ ap attribute_read c.in-None.is);
       target_fits = tt;
     }

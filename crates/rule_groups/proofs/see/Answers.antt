@@ -33,5 +33,5 @@ returns-in-Action c =
       see-action sk c.in-Action.a.acting c.in-Action.a.otherwise (action_in text c.in-Action.a.action),
     )
 
-pub returns-in-Refused : goal.returns-in-Refused
-returns-in-Refused c = λ text d sk fit. rw c.in-Refused.is
+pub returns-in-Err : goal.returns-in-Err
+returns-in-Err c = λ text d sk fit. rw c.in-Err.is

@@ -2,16 +2,16 @@
 
 use Rattle.rule_lines.proofs.action_value.Goals as goal
 
-pub returns-in-Read : goal.returns-in-Read
-returns-in-Read c =
+pub returns-in-Ok : goal.returns-in-Ok
+returns-in-Ok c =
     record {
-      result_value = λ l. rw c.in-Read.is;
+      result_value = λ l. rw c.in-Ok.is;
       action_fits = λ l fit. fit;
     }
 
-pub returns-in-Refused : goal.returns-in-Refused
-returns-in-Refused c =
+pub returns-in-Err : goal.returns-in-Err
+returns-in-Err c =
     record {
-      result_value = λ l. rw c.in-Refused.is;
+      result_value = λ l. rw c.in-Err.is;
       action_fits = λ l fit. tt;
     }

@@ -60,9 +60,9 @@ returns-in-Priority c =
       line_fits = c.ranked_line.ensures.line_fits;
     }
 
-pub returns-in-Unknown : goal.returns-in-Unknown
-returns-in-Unknown c =
+pub returns-in-None : goal.returns-in-None
+returns-in-None c =
     record {
-      result_value = λ m w e. rw c.in-Unknown.is;
+      result_value = λ m w e. rw c.in-None.is;
       line_fits = tt;
     }

@@ -13,7 +13,7 @@ returns-in_default c =
 
 pub returns : goal.returns
 returns c =
-    let field : (fields_at c.args.l.now c.args.at ≡ name_in c.args.l.now c.in-Taken.id ∷ fields_at c.args.l.now c.in-Taken.id.end) × Fits c.args.l.now c.in-Taken.id = c.next_field-f.ensures.taken _ c.in-Taken.is in
+    let field : (fields_at c.args.l.now c.args.at ≡ name_in c.args.l.now c.in-Some.id ∷ fields_at c.args.l.now c.in-Some.id.end) × Fits c.args.l.now c.in-Some.id = c.next_field-f.ensures.taken _ c.in-Some.is in
     record {
       result_value = rw (field).0;
       line_fits = (field).1;

@@ -11,18 +11,18 @@ returns-in_default c =
       line_fits = tt;
     }
 
-pub returns-in-Whole : goal.returns-in-Whole
-returns-in-Whole c =
-    let field : (fields_at c.args.l.now c.args.at ≡ name_in c.args.l.now c.in-Taken.s ∷ fields_at c.args.l.now c.in-Taken.s.end) × Fits c.args.l.now c.in-Taken.s = c.next_field-f.ensures.taken _ c.in-Taken.is in
+pub returns-in-Some : goal.returns-in-Some
+returns-in-Some c =
+    let field : (fields_at c.args.l.now c.args.at ≡ name_in c.args.l.now c.in-Some.s ∷ fields_at c.args.l.now c.in-Some.s.end) × Fits c.args.l.now c.in-Some.s = c.next_field-f.ensures.taken _ c.in-Some.is in
     record {
-      result_value = rw ((field).0, ← c.letters_of.ensures, sym c.read_count-n.ensures ∙ c.in-Whole.is);
+      result_value = rw ((field).0, ← c.letters_of.ensures, sym c.read_count-n.ensures ∙ c.in-Some.is);
       line_fits = tt;
     }
 
-pub returns-in-Uncounted : goal.returns-in-Uncounted
-returns-in-Uncounted c =
-    let field : (fields_at c.args.l.now c.args.at ≡ name_in c.args.l.now c.in-Taken.s ∷ fields_at c.args.l.now c.in-Taken.s.end) × Fits c.args.l.now c.in-Taken.s = c.next_field-f.ensures.taken _ c.in-Taken.is in
+pub returns-in-None : goal.returns-in-None
+returns-in-None c =
+    let field : (fields_at c.args.l.now c.args.at ≡ name_in c.args.l.now c.in-Some.s ∷ fields_at c.args.l.now c.in-Some.s.end) × Fits c.args.l.now c.in-Some.s = c.next_field-f.ensures.taken _ c.in-Some.is in
     record {
-      result_value = rw ((field).0, ← c.letters_of.ensures, sym c.read_count-n.ensures ∙ c.in-Uncounted.is);
+      result_value = rw ((field).0, ← c.letters_of.ensures, sym c.read_count-n.ensures ∙ c.in-None.is);
       line_fits = tt;
     }

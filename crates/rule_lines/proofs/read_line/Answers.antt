@@ -15,7 +15,7 @@ line_by-requires c = c.requires
 pub returns : goal.returns
 unfolding said_of
 returns c =
-    let field : (fields_at c.args.l.now c.args.at ≡ name_in c.args.l.now c.in-Taken.s ∷ fields_at c.args.l.now c.in-Taken.s.end) × Fits c.args.l.now c.in-Taken.s = c.next_field-f.ensures.taken _ c.in-Taken.is in
+    let field : (fields_at c.args.l.now c.args.at ≡ name_in c.args.l.now c.in-Some.s ∷ fields_at c.args.l.now c.in-Some.s.end) × Fits c.args.l.now c.in-Some.s = c.next_field-f.ensures.taken _ c.in-Some.is in
     record {
       result_value = λ m w e. rw ((field).0, ← c.letters_of.ensures, ← c.rule_word-word.ensures) (c.line_by.ensures.result_value m w e);
       line_fits = c.line_by.ensures.line_fits;

@@ -9,18 +9,18 @@ pub store_group-requires : goal.store_group-requires
 store_group-requires c = (
   c.requires.m,
   (read-good c.args.at c.args.first c.requires.holds c.take_lines-read.result _ _
-      (c.take_lines-read.ensures c.requires.m c.requires.holds) c.in-Good.q c.in-Good.is).0,
+      (c.take_lines-read.ensures c.requires.m c.requires.holds) c.in-Ok.q c.in-Ok.is).0,
   _,
   _,
   close-written c.args.at c.args.first c.requires.holds c.take_lines-read.result _ _ (c.take_lines-read.ensures c.requires.m c.requires.holds)
-      c.in-Good.q c.in-Good.is,
+      c.in-Ok.q c.in-Ok.is,
 )
 
-pub returns-in-Good : goal.returns-in-Good
-returns-in-Good c =
-    λ m h. close-stored c.args.at c.args.first h c.take_lines-read.result _ _ (c.take_lines-read.ensures m h) c.in-Good.q
-    c.in-Good.is _ _ _ (λ d. c.store_group.ensures m d _ _)
+pub returns-in-Ok : goal.returns-in-Ok
+returns-in-Ok c =
+    λ m h. close-stored c.args.at c.args.first h c.take_lines-read.result _ _ (c.take_lines-read.ensures m h) c.in-Ok.q
+    c.in-Ok.is _ _ _ (λ d. c.store_group.ensures m d _ _)
 
-pub returns-in-Refused : goal.returns-in-Refused
-returns-in-Refused c =
-    λ m h. close-refused c.args.at c.args.first h c.take_lines-read.result _ _ (c.take_lines-read.ensures m h) _ c.in-Refused.is
+pub returns-in-Err : goal.returns-in-Err
+returns-in-Err c =
+    λ m h. close-refused c.args.at c.args.first h c.take_lines-read.result _ _ (c.take_lines-read.ensures m h) _ c.in-Err.is

@@ -22,5 +22,5 @@ pub returns-in-Action : goal.returns-in-Action
 returns-in-Action c =
     rw c.in-Action.is ((λ k. c.put_action.ensures), λ k. absurd (omega (arith, c.if-n-ge-CLAUSES_MOST.false)))
 
-pub returns-in-Refused : goal.returns-in-Refused
-returns-in-Refused c = rw c.in-Refused.is (refl, refl)
+pub returns-in-Err : goal.returns-in-Err
+returns-in-Err c = rw c.in-Err.is (refl, refl)

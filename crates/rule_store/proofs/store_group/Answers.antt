@@ -10,24 +10,24 @@ judge_group-answer-requires c = judge-asked c.requires.4
 
 pub put_rule-requires : goal.put_rule-requires
 put_rule-requires c =
-    (group-rules c.requires.4 c.judge_group-answer.result c.judge_group-answer.ensures c.in-Good.id c.in-Good.is, holds-words c.requires.4.more)
+    (group-rules c.requires.4 c.judge_group-answer.result c.judge_group-answer.ensures c.in-Ok.id c.in-Ok.is, holds-words c.requires.4.more)
 
 pub overflow_add-t : goal.overflow_add-t
 overflow_add-t c =
-    omega (arith, group-rules c.requires.4 c.judge_group-answer.result c.judge_group-answer.ensures c.in-Good.id c.in-Good.is)
+    omega (arith, group-rules c.requires.4 c.judge_group-answer.result c.judge_group-answer.ensures c.in-Ok.id c.in-Ok.is)
 
-pub overflow_add-t-in-Good : goal.overflow_add-t-in-Good
-overflow_add-t-in-Good c =
-    omega (arith, group-clauses c.requires.4 c.judge_group-answer.result c.judge_group-answer.ensures c.in-Good.id c.in-Good.is)
+pub overflow_add-t-in-Ok : goal.overflow_add-t-in-Ok
+overflow_add-t-in-Ok c =
+    omega (arith, group-clauses c.requires.4 c.judge_group-answer.result c.judge_group-answer.ensures c.in-Ok.id c.in-Ok.is)
 
 pub erase_clauses-requires : goal.erase_clauses-requires
 erase_clauses-requires c =
     (bound-clauses c.requires.4.was, holds-words c.requires.4.more, holds-numbers c.requires.4.more)
 
-pub returns-in-Good : goal.returns-in-Good
-returns-in-Good c =
-    λ m d w f k. group-stored k c.judge_group-answer.result c.judge_group-answer.ensures c.in-Good.id c.in-Good.is c.put_rule.ensures
+pub returns-in-Ok : goal.returns-in-Ok
+returns-in-Ok c =
+    λ m d w f k. group-stored k c.judge_group-answer.result c.judge_group-answer.ensures c.in-Ok.id c.in-Ok.is c.put_rule.ensures
 
-pub returns-in-Refused : goal.returns-in-Refused
-returns-in-Refused c =
-    λ m d w f k. group-refused k c.judge_group-answer.result c.judge_group-answer.ensures _ c.in-Refused.is (λ cs. c.erase_clauses.ensures c.args.text.now m _ w f cs k.was)
+pub returns-in-Err : goal.returns-in-Err
+returns-in-Err c =
+    λ m d w f k. group-refused k c.judge_group-answer.result c.judge_group-answer.ensures _ c.in-Err.is (λ cs. c.erase_clauses.ensures c.args.text.now m _ w f cs k.was)

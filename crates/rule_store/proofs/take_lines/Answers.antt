@@ -29,7 +29,7 @@ read_line-read-requires c =
 
 pub overflow_add-base : goal.overflow_add-base
 overflow_add-base c =
-    let t = c.loop-line.invariant c.requires.m (started c.requires.holds) in let h = (c.next_own-own.ensures.line _ c.in-Line.is) in
+    let t = c.loop-line.invariant c.requires.m (started c.requires.holds) in let h = (c.next_own-own.ensures.line _ c.in-Some.is) in
     omega (arith, t.going.sketched.long, t.going.below, h.after, h.some, h.inside, bound-clauses c.requires.holds)
 
 pub put_line-requires : goal.put_line-requires
@@ -38,34 +38,34 @@ put_line-requires c =
 
 pub see-seen-requires : goal.see-seen-requires
 see-seen-requires c =
-    let t = c.loop-line.invariant c.requires.m (started c.requires.holds) in let h = (c.next_own-own.ensures.line _ c.in-Line.is) in
+    let t = c.loop-line.invariant c.requires.m (started c.requires.holds) in let h = (c.next_own-own.ensures.line _ c.in-Some.is) in
     omega (arith, t.going.sketched.long, t.going.below, h.after, h.some, h.inside)
 
 pub loop-line-smaller : goal.loop-line-smaller
 loop-line-smaller c =
-    falls (c.next_own-own.ensures.line _ c.in-Line.is)
+    falls (c.next_own-own.ensures.line _ c.in-Some.is)
 
 pub loop-line-preserved : goal.loop-line-preserved
 loop-line-preserved c =
-    λ m st. taking-on (c.loop-line.invariant m st) _ (c.next_own-own.ensures.line _ c.in-Line.is) c.own_bytes.result.now
+    λ m st. taking-on (c.loop-line.invariant m st) _ (c.next_own-own.ensures.line _ c.in-Some.is) c.own_bytes.result.now
     c.own_bytes.ensures st.links-are c.read_line-read.result c.read_line-read.ensures.result_value c.read_line-read.ensures.line_fits st.base-is _ _
-    c.put_line.ensures c.see-seen.result c.see-seen.ensures _ c.in-Good.is
+    c.put_line.ensures c.see-seen.result c.see-seen.ensures _ c.in-Ok.is
 
 pub erase_clauses-requires : goal.erase_clauses-requires
 erase_clauses-requires c =
     let t = c.loop-line.invariant c.requires.m (started c.requires.holds) in
     (bound-clauses c.requires.holds, c.put_line.auto.words ∙ holds-words t.held, c.put_line.auto.numbers ∙ holds-numbers t.held)
 
-pub shape_of-words-in-Refused : goal.shape_of-words-in-Refused
-shape_of-words-in-Refused c =
+pub shape_of-words-in-Err : goal.shape_of-words-in-Err
+shape_of-words-in-Err c =
     c.erase_clauses.auto.words ∙ c.put_line.auto.words ∙ holds-words (c.loop-line.invariant c.requires.m (started c.requires.holds)).held ∙ sym (holds-words c.requires.holds)
 
-pub shape_of-numbers-in-Refused : goal.shape_of-numbers-in-Refused
-shape_of-numbers-in-Refused c =
+pub shape_of-numbers-in-Err : goal.shape_of-numbers-in-Err
+shape_of-numbers-in-Err c =
     c.erase_clauses.auto.numbers ∙ c.put_line.auto.numbers ∙ holds-numbers (c.loop-line.invariant c.requires.m (started c.requires.holds)).held ∙ sym (holds-numbers c.requires.holds)
 
-pub returns-in-Refused : goal.returns-in-Refused
-returns-in-Refused c =
-    λ m h. let st = started h in taking-bad (c.loop-line.invariant m st) _ (c.next_own-own.ensures.line _ c.in-Line.is)
+pub returns-in-Err : goal.returns-in-Err
+returns-in-Err c =
+    λ m h. let st = started h in taking-bad (c.loop-line.invariant m st) _ (c.next_own-own.ensures.line _ c.in-Some.is)
     c.own_bytes.result.now c.own_bytes.ensures st.links-are c.read_line-read.result c.read_line-read.ensures.result_value c.read_line-read.ensures.line_fits
-    st.base-is _ _ c.put_line.ensures c.see-seen.result c.see-seen.ensures _ c.in-Refused.is (λ cs. c.erase_clauses.ensures c.args.text.now m _ _ _ cs h st.base-is)
+    st.base-is _ _ c.put_line.ensures c.see-seen.result c.see-seen.ensures _ c.in-Err.is (λ cs. c.erase_clauses.ensures c.args.text.now m _ _ _ cs h st.base-is)

@@ -2,11 +2,11 @@
 use mathlib.Core.Path.{sym, ◌∙◌}
 use Rattle.rule_values.proofs.number_value.Goals as goal
 
-pub returns-in-Value : goal.returns-in-Value
-returns-in-Value c = rw (sym c.read_number-n.ensures.value ∙ c.in-Value.is)
+pub returns-in-Ok : goal.returns-in-Ok
+returns-in-Ok c = rw (sym c.read_number-n.ensures.value ∙ c.in-Ok.is)
 
-pub returns-in-Malformed : goal.returns-in-Malformed
-returns-in-Malformed c = rw (sym c.read_number-n.ensures.value ∙ c.in-Malformed.is)
+pub returns-in-Err-Malformed : goal.returns-in-Err-Malformed
+returns-in-Err-Malformed c = rw (sym c.read_number-n.ensures.value ∙ c.in-Err-Malformed.is)
 
-pub returns-in-Beyond : goal.returns-in-Beyond
-returns-in-Beyond c = rw (sym c.read_number-n.ensures.value ∙ c.in-Beyond.is)
+pub returns-in-Err-Beyond : goal.returns-in-Err-Beyond
+returns-in-Err-Beyond c = rw (sym c.read_number-n.ensures.value ∙ c.in-Err-Beyond.is)

@@ -14,17 +14,17 @@ slice_bounds-read_pair-end c = sym (length-take-le c.args.end c.args.text.now c.
 
 pub store_point-requires : goal.store_point-requires
 store_point-requires c =
-    let is_read : (pair_of (fields_at (take c.args.end c.args.text.now) c.args.at) ≡ good (pair_in c.args.text.now c.in-Pair.p)) × Fits c.args.text.now c.in-Pair.p.id = pair-told c.args.text.now c.args.end _ c.in-Pair.is c.read_pair-read.ensures in
+    let is_read : (pair_of (fields_at (take c.args.end c.args.text.now) c.args.at) ≡ good (pair_in c.args.text.now c.in-Ok.p)) × Fits c.args.text.now c.in-Ok.p.id = pair-told c.args.text.now c.args.end _ c.in-Ok.is c.read_pair-read.ensures in
     (c.requires.0, (is_read).1)
 
-pub returns-in-Pair : goal.returns-in-Pair
+pub returns-in-Ok : goal.returns-in-Ok
 unfolding curve_step
-returns-in-Pair c =
-    let is_read : (pair_of (fields_at (take c.args.end c.args.text.now) c.args.at) ≡ good (pair_in c.args.text.now c.in-Pair.p)) × Fits c.args.text.now c.in-Pair.p.id = pair-told c.args.text.now c.args.end _ c.in-Pair.is c.read_pair-read.ensures in
+returns-in-Ok c =
+    let is_read : (pair_of (fields_at (take c.args.end c.args.text.now) c.args.at) ≡ good (pair_in c.args.text.now c.in-Ok.p)) × Fits c.args.text.now c.in-Ok.p.id = pair-told c.args.text.now c.args.end _ c.in-Ok.is c.read_pair-read.ensures in
     λ m h. rw (is_read).0 (c.store_point.ensures m h)
 
-pub returns-in-NoPair : goal.returns-in-NoPair
+pub returns-in-Err : goal.returns-in-Err
 unfolding curve_step
-returns-in-NoPair c =
-    let no_read : pair_of (fields_at (take c.args.end c.args.text.now) c.args.at) ≡ bad c.in-NoPair.why = pair-told c.args.text.now c.args.end _ c.in-NoPair.is c.read_pair-read.ensures in
+returns-in-Err c =
+    let no_read : pair_of (fields_at (take c.args.end c.args.text.now) c.args.at) ≡ bad c.in-Err.why = pair-told c.args.text.now c.args.end _ c.in-Err.is c.read_pair-read.ensures in
     λ m h. rw (no_read) (refl, refl, refl)

@@ -24,7 +24,7 @@ falls_behind-requires c =
 pub returns-then-falls_behind : goal.returns-then-falls_behind
 returns-then-falls_behind c =
     let look : (m : Network) → Holds c.args.text.now m c.args.s c.args.words.now c.args.numbers.now → lookup m.curves (part c.args.p.id.at c.args.p.id.end c.args.text.now) ≡ c.find_at-found.result = λ m h. sym (c.find_at-found.ensures m h.words (count-curves h)) in
-    λ m h. falling h c.args.p.id c.args.p.x c.args.p.y _ (look m h ∙ c.in-At.is)
+    λ m h. falling h c.args.p.id c.args.p.x c.args.p.y _ (look m h ∙ c.in-Some.is)
     (sym (c.falls_behind.ensures c.args.text.now m h.words h.numbers (count-points h)) ∙ c.if-falls_behind.true)
 
 pub put_point-requires : goal.put_point-requires
@@ -34,7 +34,7 @@ put_point-requires c =
 pub returns-then-k-lt-POINTS_MOST : goal.returns-then-k-lt-POINTS_MOST
 returns-then-k-lt-POINTS_MOST c =
     let look : (m : Network) → Holds c.args.text.now m c.args.s c.args.words.now c.args.numbers.now → lookup m.curves (part c.args.p.id.at c.args.p.id.end c.args.text.now) ≡ c.find_at-found.result = λ m h. sym (c.find_at-found.ensures m h.words (count-curves h)) in
-    λ m h. goes_on-law h c.args.p.id c.args.p.x c.args.p.y _ (look m h ∙ c.in-At.is)
+    λ m h. goes_on-law h c.args.p.id c.args.p.x c.args.p.y _ (look m h ∙ c.in-Some.is)
     (sym (c.falls_behind.ensures c.args.text.now m h.words h.numbers (count-points h)) ∙ c.if-falls_behind.false) _ _
     c.if-k-lt-POINTS_MOST.true c.put_point.ensures.0 c.put_point.ensures.1
 
@@ -52,21 +52,21 @@ returns-then-k-lt-POINTS_MOST-2 c =
     let look : (m : Network) → Holds c.args.text.now m c.args.s c.args.words.now c.args.numbers.now → lookup m.curves (part c.args.p.id.at c.args.p.id.end c.args.text.now) ≡ c.find_at-found.result = λ m h. sym (c.find_at-found.ensures m h.words (count-curves h)) in
     λ m h.
     let a = c.args in
-    starts h a.p.id a.p.x a.p.y _ _ _ (look m h ∙ c.in-Nowhere.is) c.requires.1 c.if-n-lt-CURVES_MOST.true c.if-k-lt-POINTS_MOST-2.true
+    starts h a.p.id a.p.x a.p.y _ _ _ (look m h ∙ c.in-None.is) c.requires.1 c.if-n-lt-CURVES_MOST.true c.if-k-lt-POINTS_MOST-2.true
     c.put_id.ensures c.put_point-then-k-lt-POINTS_MOST-2.ensures.0 c.put_point-then-k-lt-POINTS_MOST-2.ensures.1
 
 pub returns-else-k-lt-POINTS_MOST : goal.returns-else-k-lt-POINTS_MOST
 returns-else-k-lt-POINTS_MOST c =
     let look : (m : Network) → Holds c.args.text.now m c.args.s c.args.words.now c.args.numbers.now → lookup m.curves (part c.args.p.id.at c.args.p.id.end c.args.text.now) ≡ c.find_at-found.result = λ m h. sym (c.find_at-found.ensures m h.words (count-curves h)) in
-    λ m h. points-full h c.args.p.id c.args.p.x c.args.p.y _ (look m h ∙ c.in-At.is)
+    λ m h. points-full h c.args.p.id c.args.p.x c.args.p.y _ (look m h ∙ c.in-Some.is)
     (sym (c.falls_behind.ensures c.args.text.now m h.words h.numbers (count-points h)) ∙ c.if-falls_behind.false) c.if-k-lt-POINTS_MOST.false
 
 pub returns-else-k-lt-POINTS_MOST-2 : goal.returns-else-k-lt-POINTS_MOST-2
 returns-else-k-lt-POINTS_MOST-2 c =
     let look : (m : Network) → Holds c.args.text.now m c.args.s c.args.words.now c.args.numbers.now → lookup m.curves (part c.args.p.id.at c.args.p.id.end c.args.text.now) ≡ c.find_at-found.result = λ m h. sym (c.find_at-found.ensures m h.words (count-curves h)) in
-    λ m h. no_room h c.args.p.id c.args.p.x c.args.p.y (look m h ∙ c.in-Nowhere.is) c.if-k-lt-POINTS_MOST-2.false
+    λ m h. no_room h c.args.p.id c.args.p.x c.args.p.y (look m h ∙ c.in-None.is) c.if-k-lt-POINTS_MOST-2.false
 
 pub returns-else-n-lt-CURVES_MOST : goal.returns-else-n-lt-CURVES_MOST
 returns-else-n-lt-CURVES_MOST c =
     let look : (m : Network) → Holds c.args.text.now m c.args.s c.args.words.now c.args.numbers.now → lookup m.curves (part c.args.p.id.at c.args.p.id.end c.args.text.now) ≡ c.find_at-found.result = λ m h. sym (c.find_at-found.ensures m h.words (count-curves h)) in
-    λ m h. curves-full h c.args.p.id c.args.p.x c.args.p.y (look m h ∙ c.in-Nowhere.is) c.if-n-lt-CURVES_MOST.false
+    λ m h. curves-full h c.args.p.id c.args.p.x c.args.p.y (look m h ∙ c.in-None.is) c.if-n-lt-CURVES_MOST.false

@@ -21,7 +21,7 @@ put_demand-requires c =
     let h = c.requires.0.holds in (
       omega (
         arith,
-        own_in c.args.node c.requires.0.m.demands _ (look c.requires.0.m h ∙ c.in-At.is),
+        own_in c.args.node c.requires.0.m.demands _ (look c.requires.0.m h ∙ c.in-Some.is),
         h.words.known.demands.bound,
       ),
       holds-words h,
@@ -47,17 +47,17 @@ returns-then-n-lt-DEMANDS_MOST c =
     let look : (m : Network) → Holds c.args.text.now m c.args.s c.args.words.now c.args.numbers.now → own_from 0 c.args.node m.demands ≡ c.own_demand-own.result = λ m h. sym (c.own_demand-own.ensures c.args.text.now m h.words (count-demands h)) in
     λ m h.
     let a = c.args in
-    appended h a.d.base a.d.pattern a.node _ _ (look m h ∙ c.in-Nowhere.is) c.requires.1 c.requires.2 c.if-n-lt-DEMANDS_MOST.true
+    appended h a.d.base a.d.pattern a.node _ _ (look m h ∙ c.in-None.is) c.requires.1 c.requires.2 c.if-n-lt-DEMANDS_MOST.true
     (mark-alike (a.s.demands + 1) c.mark.ensures c.put_demand-then-n-lt-DEMANDS_MOST.ensures.0 refl)
     c.put_demand-then-n-lt-DEMANDS_MOST.ensures.1
 
-pub returns-in-At : goal.returns-in-At
-returns-in-At c =
+pub returns-in-Some : goal.returns-in-Some
+returns-in-Some c =
     let look : (m : Network) → Holds c.args.text.now m c.args.s c.args.words.now c.args.numbers.now → own_from 0 c.args.node m.demands ≡ c.own_demand-own.result = λ m h. sym (c.own_demand-own.ensures c.args.text.now m h.words (count-demands h)) in
-    λ m h. replaced h c.args.d.base c.args.d.pattern c.args.node _ _ _ (look m h ∙ c.in-At.is) c.requires.1
+    λ m h. replaced h c.args.d.base c.args.d.pattern c.args.node _ _ _ (look m h ∙ c.in-Some.is) c.requires.1
     c.put_demand.ensures.0 c.put_demand.ensures.1
 
 pub returns-else-n-lt-DEMANDS_MOST : goal.returns-else-n-lt-DEMANDS_MOST
 returns-else-n-lt-DEMANDS_MOST c =
     let look : (m : Network) → Holds c.args.text.now m c.args.s c.args.words.now c.args.numbers.now → own_from 0 c.args.node m.demands ≡ c.own_demand-own.result = λ m h. sym (c.own_demand-own.ensures c.args.text.now m h.words (count-demands h)) in
-    λ m h. demands-full h c.args.d.base c.args.d.pattern c.args.node (look m h ∙ c.in-Nowhere.is) c.if-n-lt-DEMANDS_MOST.false
+    λ m h. demands-full h c.args.d.base c.args.d.pattern c.args.node (look m h ∙ c.in-None.is) c.if-n-lt-DEMANDS_MOST.false

@@ -15,17 +15,17 @@ slice_bounds-read_demand-end c = sym (length-take-le c.args.end c.args.text.now 
 
 pub store_demand-requires : goal.store_demand-requires
 store_demand-requires c =
-    let is_read : (demand_of (fields_at (take c.args.end c.args.text.now) c.args.at) ≡ good (demand_in c.args.text.now c.in-Demand.d)) × Fits c.args.text.now c.in-Demand.d.id × MayFit c.args.text.now c.in-Demand.d.pattern = demand-told c.args.text.now c.args.end _ c.in-Demand.is c.read_demand-read.ensures in
+    let is_read : (demand_of (fields_at (take c.args.end c.args.text.now) c.args.at) ≡ good (demand_in c.args.text.now c.in-Ok.d)) × Fits c.args.text.now c.in-Ok.d.id × MayFit c.args.text.now c.in-Ok.d.pattern = demand-told c.args.text.now c.args.end _ c.in-Ok.is c.read_demand-read.ensures in
     (c.requires.0, (is_read).1, (is_read).2)
 
-pub returns-in-Demand : goal.returns-in-Demand
+pub returns-in-Ok : goal.returns-in-Ok
 unfolding demand_step
-returns-in-Demand c =
-    let is_read : (demand_of (fields_at (take c.args.end c.args.text.now) c.args.at) ≡ good (demand_in c.args.text.now c.in-Demand.d)) × Fits c.args.text.now c.in-Demand.d.id × MayFit c.args.text.now c.in-Demand.d.pattern = demand-told c.args.text.now c.args.end _ c.in-Demand.is c.read_demand-read.ensures in
+returns-in-Ok c =
+    let is_read : (demand_of (fields_at (take c.args.end c.args.text.now) c.args.at) ≡ good (demand_in c.args.text.now c.in-Ok.d)) × Fits c.args.text.now c.in-Ok.d.id × MayFit c.args.text.now c.in-Ok.d.pattern = demand-told c.args.text.now c.args.end _ c.in-Ok.is c.read_demand-read.ensures in
     λ m h. rw (is_read).0 (c.store_demand.ensures m h)
 
-pub returns-in-NoDemand : goal.returns-in-NoDemand
+pub returns-in-Err : goal.returns-in-Err
 unfolding demand_step
-returns-in-NoDemand c =
-    let no_read : demand_of (fields_at (take c.args.end c.args.text.now) c.args.at) ≡ bad c.in-NoDemand.why = demand-told c.args.text.now c.args.end _ c.in-NoDemand.is c.read_demand-read.ensures in
+returns-in-Err c =
+    let no_read : demand_of (fields_at (take c.args.end c.args.text.now) c.args.at) ≡ bad c.in-Err.why = demand-told c.args.text.now c.args.end _ c.in-Err.is c.read_demand-read.ensures in
     λ m h. rw (no_read) (refl, refl, refl)

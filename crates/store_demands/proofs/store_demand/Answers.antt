@@ -23,7 +23,7 @@ is_junction-requires c =
     let h = c.requires.0.holds in (
       omega (
         arith,
-        node-below h c.args.d.base c.args.d.pattern c.args.d.id _ (look c.requires.0.m h ∙ c.in-At.is),
+        node-below h c.args.d.base c.args.d.pattern c.args.d.id _ (look c.requires.0.m h ∙ c.in-Some.is),
         h.words.known.nodes.bound,
       ),
       holds-words h,
@@ -35,12 +35,12 @@ add_demand-requires c =
     let p = c.requires in
     let a = c.args in
     let h = p.0.holds in
-    (p.0, p.2, omega (arith, node-below h a.d.base a.d.pattern a.d.id _ (look p.0.m h ∙ c.in-At.is), count-nodes h))
+    (p.0, p.2, omega (arith, node-below h a.d.base a.d.pattern a.d.id _ (look p.0.m h ∙ c.in-Some.is), count-nodes h))
 
 pub returns-then-is_junction : goal.returns-then-is_junction
 returns-then-is_junction c =
     let look : (m : Network) → Holds c.args.text.now m c.args.s c.args.words.now c.args.numbers.now → lookup (node_ids m) (part c.args.d.id.at c.args.d.id.end c.args.text.now) ≡ c.node_named-found.result = λ m h. sym (c.node_named-found.ensures m h.words (count-nodes h)) in
-    λ m h. let e = look m h ∙ c.in-At.is in
+    λ m h. let e = look m h ∙ c.in-Some.is in
     on-junction h c.args.d.base c.args.d.pattern c.args.d.id _ e _ _ _
     (sym c.if-is_junction.true ∙ c.is_junction.ensures c.args.text.now m h.words
     (node-below h c.args.d.base c.args.d.pattern c.args.d.id _ e)) (c.add_demand.ensures m h)
@@ -48,6 +48,6 @@ returns-then-is_junction c =
 pub returns : goal.returns
 returns c =
     let look : (m : Network) → Holds c.args.text.now m c.args.s c.args.words.now c.args.numbers.now → lookup (node_ids m) (part c.args.d.id.at c.args.d.id.end c.args.text.now) ≡ c.node_named-found.result = λ m h. sym (c.node_named-found.ensures m h.words (count-nodes h)) in
-    λ m h. let e = look m h ∙ c.in-At.is in
+    λ m h. let e = look m h ∙ c.in-Some.is in
     no-junction h c.args.d.base c.args.d.pattern c.args.d.id _ e
     (sym c.if-is_junction.false ∙ c.is_junction.ensures c.args.text.now m h.words (node-below h c.args.d.base c.args.d.pattern c.args.d.id _ e))

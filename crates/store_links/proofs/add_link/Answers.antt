@@ -14,10 +14,10 @@ find-found-requires c =
     let held = c.requires.0.holds in
     ((c.requires.0.m, held.words, count-links held), told-key (name_in c.args.text.now c.args.id) c.id_words-who.ensures c.letters_of.ensures)
 
-pub returns-in-At : goal.returns-in-At
-returns-in-At c =
+pub returns-in-Some : goal.returns-in-Some
+returns-in-Some c =
     λ m h. link-used h (name_in c.args.text.now c.args.id) (ends_at c.args.from c.args.to) (kind_in c.args.text.now c.args.kind)
-    (told-found (link_ids m) c.letters_of.ensures (c.find-found.ensures m h.words (count-links h)) c.in-At.is)
+    (told-found (link_ids m) c.letters_of.ensures (c.find-found.ensures m h.words (count-links h)) c.in-Some.is)
 
 pub put_link-requires : goal.put_link-requires
 put_link-requires c =

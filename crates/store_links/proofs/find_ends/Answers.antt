@@ -14,10 +14,10 @@ returns-in_default c =
 pub returns-in_default-second : goal.returns-in_default-second
 returns-in_default-second c =
     λ m w e. no_end (name_in c.args.text.now c.args.names.start) (name_in c.args.text.now c.args.names.end) m
-    (told-found (node_ids m) refl (c.node_named-first.ensures m w e) c.in-At.is)
+    (told-found (node_ids m) refl (c.node_named-first.ensures m w e) c.in-Some.is)
     (told-found (node_ids m) refl (c.node_named-second.ensures m w e) c.in_default-second.is)
 
 pub returns : goal.returns
 returns c =
     λ m w e. both_ends (name_in c.args.text.now c.args.names.start) (name_in c.args.text.now c.args.names.end) m
-    (told-found (node_ids m) refl (c.node_named-first.ensures m w e) c.in-At.is) (told-found (node_ids m) refl (c.node_named-second.ensures m w e) c.in-At-second.is)
+    (told-found (node_ids m) refl (c.node_named-first.ensures m w e) c.in-Some.is) (told-found (node_ids m) refl (c.node_named-second.ensures m w e) c.in-Some-second.is)

@@ -31,10 +31,10 @@ find_ends-ends-requires c =
 
 pub returns-in_default-ends : goal.returns-in_default-ends
 returns-in_default-ends c =
-    let in-line : ((fields_at (take c.args.end c.args.text.now) c.args.at) ≡ name_in (take c.args.end c.args.text.now) c.in-Names.names.id ∷ name_in (take c.args.end c.args.text.now) c.in-Names.names.start ∷ name_in (take c.args.end c.args.text.now) c.in-Names.names.end ∷ (fields_at (take c.args.end c.args.text.now) c.in-Names.names.end.end)) × NamesFit (take c.args.end c.args.text.now) c.in-Names.names = told_names (take c.args.end c.args.text.now) (fields_at (take c.args.end c.args.text.now) c.args.at) c.in-Names.is c.read_names-three.ensures in
-    let in-text : (fields_at (take c.args.end c.args.text.now) c.args.at) ≡ name_in c.args.text.now c.in-Names.names.id ∷ name_in c.args.text.now c.in-Names.names.start ∷ name_in c.args.text.now c.in-Names.names.end ∷ (fields_at (take c.args.end c.args.text.now) c.in-Names.names.end.end) = names-text c.args.text.now c.args.end c.in-Names.names (in-line).0 (in-line).1 in
+    let in-line : ((fields_at (take c.args.end c.args.text.now) c.args.at) ≡ name_in (take c.args.end c.args.text.now) c.in-Ok.names.id ∷ name_in (take c.args.end c.args.text.now) c.in-Ok.names.start ∷ name_in (take c.args.end c.args.text.now) c.in-Ok.names.end ∷ (fields_at (take c.args.end c.args.text.now) c.in-Ok.names.end.end)) × NamesFit (take c.args.end c.args.text.now) c.in-Ok.names = told_names (take c.args.end c.args.text.now) (fields_at (take c.args.end c.args.text.now) c.args.at) c.in-Ok.is c.read_names-three.ensures in
+    let in-text : (fields_at (take c.args.end c.args.text.now) c.args.at) ≡ name_in c.args.text.now c.in-Ok.names.id ∷ name_in c.args.text.now c.in-Ok.names.start ∷ name_in c.args.text.now c.in-Ok.names.end ∷ (fields_at (take c.args.end c.args.text.now) c.in-Ok.names.end.end) = names-text c.args.text.now c.args.end c.in-Ok.names (in-line).0 (in-line).1 in
     λ m h. rw (pump-no-ends m (in-text) (told-ends
-    (ends_of (name_in c.args.text.now c.in-Names.names.start) (name_in c.args.text.now c.in-Names.names.end) m)
+    (ends_of (name_in c.args.text.now c.in-Ok.names.start) (name_in c.args.text.now c.in-Ok.names.end) m)
     c.in_default-ends.is (c.find_ends-ends.ensures m h.words (count-nodes h)))) (refl, refl, refl)
 
 pub slice_bounds-read_pairs-end : goal.slice_bounds-read_pairs-end
@@ -43,26 +43,26 @@ slice_bounds-read_pairs-end c =
 
 pub add_link-requires : goal.add_link-requires
 add_link-requires c =
-    let in-line : ((fields_at (take c.args.end c.args.text.now) c.args.at) ≡ name_in (take c.args.end c.args.text.now) c.in-Names.names.id ∷ name_in (take c.args.end c.args.text.now) c.in-Names.names.start ∷ name_in (take c.args.end c.args.text.now) c.in-Names.names.end ∷ (fields_at (take c.args.end c.args.text.now) c.in-Names.names.end.end)) × NamesFit (take c.args.end c.args.text.now) c.in-Names.names = told_names (take c.args.end c.args.text.now) (fields_at (take c.args.end c.args.text.now) c.args.at) c.in-Names.is c.read_names-three.ensures in
-    (c.requires.0, fits-text c.args.text.now c.args.end c.in-Names.names.id (in-line).1.id)
+    let in-line : ((fields_at (take c.args.end c.args.text.now) c.args.at) ≡ name_in (take c.args.end c.args.text.now) c.in-Ok.names.id ∷ name_in (take c.args.end c.args.text.now) c.in-Ok.names.start ∷ name_in (take c.args.end c.args.text.now) c.in-Ok.names.end ∷ (fields_at (take c.args.end c.args.text.now) c.in-Ok.names.end.end)) × NamesFit (take c.args.end c.args.text.now) c.in-Ok.names = told_names (take c.args.end c.args.text.now) (fields_at (take c.args.end c.args.text.now) c.args.at) c.in-Ok.is c.read_names-three.ensures in
+    (c.requires.0, fits-text c.args.text.now c.args.end c.in-Ok.names.id (in-line).1.id)
 
-pub returns-in-Pairs : goal.returns-in-Pairs
-returns-in-Pairs c =
-    let in-line : ((fields_at (take c.args.end c.args.text.now) c.args.at) ≡ name_in (take c.args.end c.args.text.now) c.in-Names.names.id ∷ name_in (take c.args.end c.args.text.now) c.in-Names.names.start ∷ name_in (take c.args.end c.args.text.now) c.in-Names.names.end ∷ (fields_at (take c.args.end c.args.text.now) c.in-Names.names.end.end)) × NamesFit (take c.args.end c.args.text.now) c.in-Names.names = told_names (take c.args.end c.args.text.now) (fields_at (take c.args.end c.args.text.now) c.args.at) c.in-Names.is c.read_names-three.ensures in
-    let in-text : (fields_at (take c.args.end c.args.text.now) c.args.at) ≡ name_in c.args.text.now c.in-Names.names.id ∷ name_in c.args.text.now c.in-Names.names.start ∷ name_in c.args.text.now c.in-Names.names.end ∷ (fields_at (take c.args.end c.args.text.now) c.in-Names.names.end.end) = names-text c.args.text.now c.args.end c.in-Names.names (in-line).0 (in-line).1 in
-    let paired : (pump_from no_pump (fields_at (take c.args.end c.args.text.now) c.in-Names.names.end.end) ≡ good (pump_in (take c.args.end c.args.text.now) c.in-Pairs.p)) × MayFit (take c.args.end c.args.text.now) c.in-Pairs.p.head = told-pump (take c.args.end c.args.text.now)
-    (pump_from no_pump (fields_at (take c.args.end c.args.text.now) c.in-Names.names.end.end)) c.in-Pairs.is c.read_pairs-read.ensures in
+pub returns-in-Ok : goal.returns-in-Ok
+returns-in-Ok c =
+    let in-line : ((fields_at (take c.args.end c.args.text.now) c.args.at) ≡ name_in (take c.args.end c.args.text.now) c.in-Ok.names.id ∷ name_in (take c.args.end c.args.text.now) c.in-Ok.names.start ∷ name_in (take c.args.end c.args.text.now) c.in-Ok.names.end ∷ (fields_at (take c.args.end c.args.text.now) c.in-Ok.names.end.end)) × NamesFit (take c.args.end c.args.text.now) c.in-Ok.names = told_names (take c.args.end c.args.text.now) (fields_at (take c.args.end c.args.text.now) c.args.at) c.in-Ok.is c.read_names-three.ensures in
+    let in-text : (fields_at (take c.args.end c.args.text.now) c.args.at) ≡ name_in c.args.text.now c.in-Ok.names.id ∷ name_in c.args.text.now c.in-Ok.names.start ∷ name_in c.args.text.now c.in-Ok.names.end ∷ (fields_at (take c.args.end c.args.text.now) c.in-Ok.names.end.end) = names-text c.args.text.now c.args.end c.in-Ok.names (in-line).0 (in-line).1 in
+    let paired : (pump_from no_pump (fields_at (take c.args.end c.args.text.now) c.in-Ok.names.end.end) ≡ good (pump_in (take c.args.end c.args.text.now) c.in-Ok.p)) × MayFit (take c.args.end c.args.text.now) c.in-Ok.p.head = told-pump (take c.args.end c.args.text.now)
+    (pump_from no_pump (fields_at (take c.args.end c.args.text.now) c.in-Ok.names.end.end)) c.in-Ok.is c.read_pairs-read.ensures in
     λ m h. rw (pump-read m (in-text) (told-ends
-    (ends_of (name_in c.args.text.now c.in-Names.names.start) (name_in c.args.text.now c.in-Names.names.end) m)
-    c.in-Both.is (c.find_ends-ends.ensures m h.words (count-nodes h)))
-    ((paired).0 ∙ ap good (pump-text c.args.text.now c.args.end c.in-Pairs.p (paired).1))) (c.add_link.ensures m h)
+    (ends_of (name_in c.args.text.now c.in-Ok.names.start) (name_in c.args.text.now c.in-Ok.names.end) m)
+    c.in-Some.is (c.find_ends-ends.ensures m h.words (count-nodes h)))
+    ((paired).0 ∙ ap good (pump-text c.args.text.now c.args.end c.in-Ok.p (paired).1))) (c.add_link.ensures m h)
 
-pub returns-in-NoPump : goal.returns-in-NoPump
-returns-in-NoPump c =
-    let in-line : ((fields_at (take c.args.end c.args.text.now) c.args.at) ≡ name_in (take c.args.end c.args.text.now) c.in-Names.names.id ∷ name_in (take c.args.end c.args.text.now) c.in-Names.names.start ∷ name_in (take c.args.end c.args.text.now) c.in-Names.names.end ∷ (fields_at (take c.args.end c.args.text.now) c.in-Names.names.end.end)) × NamesFit (take c.args.end c.args.text.now) c.in-Names.names = told_names (take c.args.end c.args.text.now) (fields_at (take c.args.end c.args.text.now) c.args.at) c.in-Names.is c.read_names-three.ensures in
-    let in-text : (fields_at (take c.args.end c.args.text.now) c.args.at) ≡ name_in c.args.text.now c.in-Names.names.id ∷ name_in c.args.text.now c.in-Names.names.start ∷ name_in c.args.text.now c.in-Names.names.end ∷ (fields_at (take c.args.end c.args.text.now) c.in-Names.names.end.end) = names-text c.args.text.now c.args.end c.in-Names.names (in-line).0 (in-line).1 in
-    let unpaired : pump_from no_pump (fields_at (take c.args.end c.args.text.now) c.in-Names.names.end.end) ≡ bad c.in-NoPump.why = told-pump (take c.args.end c.args.text.now)
-    (pump_from no_pump (fields_at (take c.args.end c.args.text.now) c.in-Names.names.end.end)) c.in-NoPump.is c.read_pairs-read.ensures in
+pub returns-in-Err : goal.returns-in-Err
+returns-in-Err c =
+    let in-line : ((fields_at (take c.args.end c.args.text.now) c.args.at) ≡ name_in (take c.args.end c.args.text.now) c.in-Ok.names.id ∷ name_in (take c.args.end c.args.text.now) c.in-Ok.names.start ∷ name_in (take c.args.end c.args.text.now) c.in-Ok.names.end ∷ (fields_at (take c.args.end c.args.text.now) c.in-Ok.names.end.end)) × NamesFit (take c.args.end c.args.text.now) c.in-Ok.names = told_names (take c.args.end c.args.text.now) (fields_at (take c.args.end c.args.text.now) c.args.at) c.in-Ok.is c.read_names-three.ensures in
+    let in-text : (fields_at (take c.args.end c.args.text.now) c.args.at) ≡ name_in c.args.text.now c.in-Ok.names.id ∷ name_in c.args.text.now c.in-Ok.names.start ∷ name_in c.args.text.now c.in-Ok.names.end ∷ (fields_at (take c.args.end c.args.text.now) c.in-Ok.names.end.end) = names-text c.args.text.now c.args.end c.in-Ok.names (in-line).0 (in-line).1 in
+    let unpaired : pump_from no_pump (fields_at (take c.args.end c.args.text.now) c.in-Ok.names.end.end) ≡ bad c.in-Err.why = told-pump (take c.args.end c.args.text.now)
+    (pump_from no_pump (fields_at (take c.args.end c.args.text.now) c.in-Ok.names.end.end)) c.in-Err.is c.read_pairs-read.ensures in
     λ m h. rw (pump-refused m (in-text) (told-ends
-    (ends_of (name_in c.args.text.now c.in-Names.names.start) (name_in c.args.text.now c.in-Names.names.end) m)
-    c.in-Both.is (c.find_ends-ends.ensures m h.words (count-nodes h))) (unpaired)) (refl, refl, refl)
+    (ends_of (name_in c.args.text.now c.in-Ok.names.start) (name_in c.args.text.now c.in-Ok.names.end) m)
+    c.in-Some.is (c.find_ends-ends.ensures m h.words (count-nodes h))) (unpaired)) (refl, refl, refl)

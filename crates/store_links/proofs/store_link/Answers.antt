@@ -21,4 +21,4 @@ pub returns : goal.returns
 returns c =
     λ m h. rw (store-ends (line_in c.args.text.now c.args.line) m
     (told-ends (ends_of (name_in c.args.text.now c.args.line.names.start) (name_in c.args.text.now c.args.line.names.end) m)
-    c.in-Both.is (c.find_ends-ends.ensures m h.words (count-nodes h)))) (c.add_link.ensures m h)
+    c.in-Some.is (c.find_ends-ends.ensures m h.words (count-nodes h)))) (c.add_link.ensures m h)

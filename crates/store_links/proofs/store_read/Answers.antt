@@ -5,12 +5,12 @@ use Rattle.store_links.proofs.store_read.Goals as goal
 
 pub store_link-requires : goal.store_link-requires
 store_link-requires c =
-    (c.requires.0, read_fits c.args.text.now c.args.end c.requires.1.0 c.requires.1.1 c.in-Line.is)
+    (c.requires.0, read_fits c.args.text.now c.args.end c.requires.1.0 c.requires.1.1 c.in-Ok.is)
 
-pub returns-in-Line : goal.returns-in-Line
-returns-in-Line c =
-    λ m h o k. rw (read-stored c.args.text.now c.args.end o k m c.in-Line.is) (c.store_link.ensures m h)
+pub returns-in-Ok : goal.returns-in-Ok
+returns-in-Ok c =
+    λ m h o k. rw (read-stored c.args.text.now c.args.end o k m c.in-Ok.is) (c.store_link.ensures m h)
 
-pub returns-in-NoLine : goal.returns-in-NoLine
-returns-in-NoLine c =
-    λ m h o k. rw (read-refused c.args.text.now c.args.end o k m c.in-NoLine.is) (refl, refl, refl)
+pub returns-in-Err : goal.returns-in-Err
+returns-in-Err c =
+    λ m h o k. rw (read-refused c.args.text.now c.args.end o k m c.in-Err.is) (refl, refl, refl)

@@ -12,9 +12,9 @@ find-found-requires c =
     let held = c.requires.holds in
     ((c.requires.m, held.words, count-nodes held), told-key (name_in c.args.text.now c.args.j.id) c.id_words-who.ensures c.letters_of.ensures)
 
-pub returns-in-At : goal.returns-in-At
-returns-in-At c =
-    λ fit may m h. junction-used h c.args.j (told-found (node_ids m) c.letters_of.ensures (c.find-found.ensures m h.words (count-nodes h)) c.in-At.is)
+pub returns-in-Some : goal.returns-in-Some
+returns-in-Some c =
+    λ fit may m h. junction-used h c.args.j (told-found (node_ids m) c.letters_of.ensures (c.find-found.ensures m h.words (count-nodes h)) c.in-Some.is)
 
 pub put_junction-requires : goal.put_junction-requires
 put_junction-requires c =

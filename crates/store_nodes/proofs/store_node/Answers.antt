@@ -13,9 +13,9 @@ find-found-requires c =
     let held = c.requires.0.holds in
     ((c.requires.0.m, held.words, count-nodes held), told-key (name_in c.args.text.now c.args.id) c.id_words-who.ensures c.letters_of.ensures)
 
-pub returns-in-At : goal.returns-in-At
-returns-in-At c =
-    λ fit k a m h. node-used h c.args.id k (told-found (node_ids m) c.letters_of.ensures (c.find-found.ensures m h.words (count-nodes h)) c.in-At.is)
+pub returns-in-Some : goal.returns-in-Some
+returns-in-Some c =
+    λ fit k a m h. node-used h c.args.id k (told-found (node_ids m) c.letters_of.ensures (c.find-found.ensures m h.words (count-nodes h)) c.in-Some.is)
 
 pub put_node-requires : goal.put_node-requires
 put_node-requires c = (c.if-n-lt-NODES_MOST.true, sound-words c.requires.0)

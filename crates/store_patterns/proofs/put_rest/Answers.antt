@@ -26,52 +26,52 @@ returns-in_default c =
 
 pub overflow_add-words : goal.overflow_add-words
 overflow_add-words c =
-    let one : number_from (fields_at c.args.l.now c.loop-x.p) ≡ took c.in-Number.x (fields_at c.args.l.now c.in-Number.next) = sym c.take_number-t.ensures ∙ ap (took_number c.args.l.now) c.in-Number.is in
+    let one : number_from (fields_at c.args.l.now c.loop-x.p) ≡ took c.in-Ok.x (fields_at c.args.l.now c.in-Ok.next) = sym c.take_number-t.ensures ∙ ap (took_number c.args.l.now) c.in-Ok.is in
     let room : c.loop-x.i < room_multipliers = room_for c.loop-x.invariant _ _ (one) in
     omega (arith, room, c.loop-x.invariant.placed.words-room, c.loop-x.invariant.placed.numbers-room, c.loop-x.invariant.placed.words_long, c.loop-x.invariant.placed.numbers-long)
 
 pub offset_bounds-words-i : goal.offset_bounds-words-i
 offset_bounds-words-i c =
-    let one : number_from (fields_at c.args.l.now c.loop-x.p) ≡ took c.in-Number.x (fields_at c.args.l.now c.in-Number.next) = sym c.take_number-t.ensures ∙ ap (took_number c.args.l.now) c.in-Number.is in
+    let one : number_from (fields_at c.args.l.now c.loop-x.p) ≡ took c.in-Ok.x (fields_at c.args.l.now c.in-Ok.next) = sym c.take_number-t.ensures ∙ ap (took_number c.args.l.now) c.in-Ok.is in
     let room : c.loop-x.i < room_multipliers = room_for c.loop-x.invariant _ _ (one) in
     omega (arith, room, c.loop-x.invariant.placed.words-room, c.loop-x.invariant.placed.numbers-room, c.loop-x.invariant.placed.words_long, c.loop-x.invariant.placed.numbers-long)
 
 pub bounds-words-i : goal.bounds-words-i
 bounds-words-i c =
-    let one : number_from (fields_at c.args.l.now c.loop-x.p) ≡ took c.in-Number.x (fields_at c.args.l.now c.in-Number.next) = sym c.take_number-t.ensures ∙ ap (took_number c.args.l.now) c.in-Number.is in
+    let one : number_from (fields_at c.args.l.now c.loop-x.p) ≡ took c.in-Ok.x (fields_at c.args.l.now c.in-Ok.next) = sym c.take_number-t.ensures ∙ ap (took_number c.args.l.now) c.in-Ok.is in
     let room : c.loop-x.i < room_multipliers = room_for c.loop-x.invariant _ _ (one) in
     omega (arith, room, c.loop-x.invariant.placed.words-room, c.loop-x.invariant.placed.numbers-room, c.loop-x.invariant.placed.words_long, c.loop-x.invariant.placed.numbers-long)
 
 pub overflow_add-numbers : goal.overflow_add-numbers
 overflow_add-numbers c =
-    let one : number_from (fields_at c.args.l.now c.loop-x.p) ≡ took c.in-Number.x (fields_at c.args.l.now c.in-Number.next) = sym c.take_number-t.ensures ∙ ap (took_number c.args.l.now) c.in-Number.is in
+    let one : number_from (fields_at c.args.l.now c.loop-x.p) ≡ took c.in-Ok.x (fields_at c.args.l.now c.in-Ok.next) = sym c.take_number-t.ensures ∙ ap (took_number c.args.l.now) c.in-Ok.is in
     let room : c.loop-x.i < room_multipliers = room_for c.loop-x.invariant _ _ (one) in
     omega (arith, room, c.loop-x.invariant.placed.words-room, c.loop-x.invariant.placed.numbers-room, c.loop-x.invariant.placed.words_long, c.loop-x.invariant.placed.numbers-long)
 
 pub offset_bounds-numbers-i : goal.offset_bounds-numbers-i
 offset_bounds-numbers-i c =
-    let one : number_from (fields_at c.args.l.now c.loop-x.p) ≡ took c.in-Number.x (fields_at c.args.l.now c.in-Number.next) = sym c.take_number-t.ensures ∙ ap (took_number c.args.l.now) c.in-Number.is in
+    let one : number_from (fields_at c.args.l.now c.loop-x.p) ≡ took c.in-Ok.x (fields_at c.args.l.now c.in-Ok.next) = sym c.take_number-t.ensures ∙ ap (took_number c.args.l.now) c.in-Ok.is in
     let room : c.loop-x.i < room_multipliers = room_for c.loop-x.invariant _ _ (one) in
     omega (arith, room, c.loop-x.invariant.placed.words-room, c.loop-x.invariant.placed.numbers-room, c.loop-x.invariant.placed.words_long, c.loop-x.invariant.placed.numbers-long)
 
 pub bounds-numbers-i : goal.bounds-numbers-i
 bounds-numbers-i c =
-    let one : number_from (fields_at c.args.l.now c.loop-x.p) ≡ took c.in-Number.x (fields_at c.args.l.now c.in-Number.next) = sym c.take_number-t.ensures ∙ ap (took_number c.args.l.now) c.in-Number.is in
+    let one : number_from (fields_at c.args.l.now c.loop-x.p) ≡ took c.in-Ok.x (fields_at c.args.l.now c.in-Ok.next) = sym c.take_number-t.ensures ∙ ap (took_number c.args.l.now) c.in-Ok.is in
     let room : c.loop-x.i < room_multipliers = room_for c.loop-x.invariant _ _ (one) in
     omega (arith, room, c.loop-x.invariant.placed.words-room, c.loop-x.invariant.placed.numbers-room, c.loop-x.invariant.placed.words_long, c.loop-x.invariant.placed.numbers-long)
 
 pub overflow_add-i : goal.overflow_add-i
 overflow_add-i c =
-    let one : number_from (fields_at c.args.l.now c.loop-x.p) ≡ took c.in-Number.x (fields_at c.args.l.now c.in-Number.next) = sym c.take_number-t.ensures ∙ ap (took_number c.args.l.now) c.in-Number.is in
+    let one : number_from (fields_at c.args.l.now c.loop-x.p) ≡ took c.in-Ok.x (fields_at c.args.l.now c.in-Ok.next) = sym c.take_number-t.ensures ∙ ap (took_number c.args.l.now) c.in-Ok.is in
     let room : c.loop-x.i < room_multipliers = room_for c.loop-x.invariant _ _ (one) in
     omega (arith, room, c.loop-x.invariant.placed.words-room, c.loop-x.invariant.placed.numbers-room, c.loop-x.invariant.placed.words_long, c.loop-x.invariant.placed.numbers-long)
 
 pub loop-x-smaller : goal.loop-x-smaller
 loop-x-smaller c =
-    let one : number_from (fields_at c.args.l.now c.loop-x.p) ≡ took c.in-Number.x (fields_at c.args.l.now c.in-Number.next) = sym c.take_number-t.ensures ∙ ap (took_number c.args.l.now) c.in-Number.is in
-    omega (arith, (took_one (fields_at c.args.l.now c.loop-x.p) (fields_at c.args.l.now c.in-Number.next) c.in-Number.x (one)).0)
+    let one : number_from (fields_at c.args.l.now c.loop-x.p) ≡ took c.in-Ok.x (fields_at c.args.l.now c.in-Ok.next) = sym c.take_number-t.ensures ∙ ap (took_number c.args.l.now) c.in-Ok.is in
+    omega (arith, (took_one (fields_at c.args.l.now c.loop-x.p) (fields_at c.args.l.now c.in-Ok.next) c.in-Ok.x (one)).0)
 
 pub loop-x-preserved : goal.loop-x-preserved
 loop-x-preserved c =
-    let one : number_from (fields_at c.args.l.now c.loop-x.p) ≡ took c.in-Number.x (fields_at c.args.l.now c.in-Number.next) = sym c.take_number-t.ensures ∙ ap (took_number c.args.l.now) c.in-Number.is in
-    turn c.loop-x.invariant (fields_at c.args.l.now c.in-Number.next) c.in-Number.x (one)
+    let one : number_from (fields_at c.args.l.now c.loop-x.p) ≡ took c.in-Ok.x (fields_at c.args.l.now c.in-Ok.next) = sym c.take_number-t.ensures ∙ ap (took_number c.args.l.now) c.in-Ok.is in
+    turn c.loop-x.invariant (fields_at c.args.l.now c.in-Ok.next) c.in-Ok.x (one)

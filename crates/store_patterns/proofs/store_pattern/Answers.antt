@@ -49,17 +49,17 @@ returns-then-n-lt-PATTERNS_MOST c =
     let look : (m : Network) → Holds c.args.text.now m c.args.s c.args.words.now c.args.numbers.now → lookup m.patterns (part c.args.p.id.at c.args.p.id.end c.args.text.now) ≡ c.find_at-found.result = λ m h. sym (c.find_at-found.ensures m h.words (count-patterns h)) in
     λ m xs h g. let n = g.long in
     rw (← n)
-    (starts h c.args.p.id xs (omega (arith, n, c.if-k-count-gt-MULTIPLIERS_MOST.false)) _ _ _ (look m h ∙ c.in-Nowhere.is) c.requires.1 c.if-n-lt-PATTERNS_MOST.true
+    (starts h c.args.p.id xs (omega (arith, n, c.if-k-count-gt-MULTIPLIERS_MOST.false)) _ _ _ (look m h ∙ c.in-None.is) c.requires.1 c.if-n-lt-PATTERNS_MOST.true
     c.put_id.ensures (c.put_multipliers-then-n-lt-PATTERNS_MOST.ensures xs g).0 (c.put_multipliers-then-n-lt-PATTERNS_MOST.ensures xs g).1)
 
-pub returns-in-At : goal.returns-in-At
-returns-in-At c =
+pub returns-in-Some : goal.returns-in-Some
+returns-in-Some c =
     let look : (m : Network) → Holds c.args.text.now m c.args.s c.args.words.now c.args.numbers.now → lookup m.patterns (part c.args.p.id.at c.args.p.id.end c.args.text.now) ≡ c.find_at-found.result = λ m h. sym (c.find_at-found.ensures m h.words (count-patterns h)) in
     λ m xs h g. rw (← g.long)
-    (goes_on-law h c.args.p.id xs (omega (arith, g.long, c.if-k-count-gt-MULTIPLIERS_MOST.false)) _ _ _ (look m h ∙ c.in-At.is)
+    (goes_on-law h c.args.p.id xs (omega (arith, g.long, c.if-k-count-gt-MULTIPLIERS_MOST.false)) _ _ _ (look m h ∙ c.in-Some.is)
     (c.put_multipliers.ensures xs g).0 (c.put_multipliers.ensures xs g).1)
 
 pub returns-else-n-lt-PATTERNS_MOST : goal.returns-else-n-lt-PATTERNS_MOST
 returns-else-n-lt-PATTERNS_MOST c =
     let look : (m : Network) → Holds c.args.text.now m c.args.s c.args.words.now c.args.numbers.now → lookup m.patterns (part c.args.p.id.at c.args.p.id.end c.args.text.now) ≡ c.find_at-found.result = λ m h. sym (c.find_at-found.ensures m h.words (count-patterns h)) in
-    λ m xs h g. patterns-full h c.args.p.id xs (look m h ∙ c.in-Nowhere.is) c.if-n-lt-PATTERNS_MOST.false
+    λ m xs h g. patterns-full h c.args.p.id xs (look m h ∙ c.in-None.is) c.if-n-lt-PATTERNS_MOST.false

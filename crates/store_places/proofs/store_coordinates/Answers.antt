@@ -15,22 +15,22 @@ returns-in_default c =
 
 pub overflow_mul-i : goal.overflow_mul-i
 overflow_mul-i c =
-    omega (arith, node-room c.requires.holds c.args.p.id (sym (c.node_named-found.ensures c.requires.m c.requires.holds.words (count-nodes c.requires.holds)) ∙ c.in-At.is))
+    omega (arith, node-room c.requires.holds c.args.p.id (sym (c.node_named-found.ensures c.requires.m c.requires.holds.words (count-nodes c.requires.holds)) ∙ c.in-Some.is))
 
 pub overflow_add-i : goal.overflow_add-i
 overflow_add-i c =
-    omega (arith, node-room c.requires.holds c.args.p.id (sym (c.node_named-found.ensures c.requires.m c.requires.holds.words (count-nodes c.requires.holds)) ∙ c.in-At.is))
+    omega (arith, node-room c.requires.holds c.args.p.id (sym (c.node_named-found.ensures c.requires.m c.requires.holds.words (count-nodes c.requires.holds)) ∙ c.in-Some.is))
 
 pub overflow_add-i-2 : goal.overflow_add-i-2
 overflow_add-i-2 c =
-    omega (arith, node-room c.requires.holds c.args.p.id (sym (c.node_named-found.ensures c.requires.m c.requires.holds.words (count-nodes c.requires.holds)) ∙ c.in-At.is))
+    omega (arith, node-room c.requires.holds c.args.p.id (sym (c.node_named-found.ensures c.requires.m c.requires.holds.words (count-nodes c.requires.holds)) ∙ c.in-Some.is))
 
 pub paste_words-requires : goal.paste_words-requires
 paste_words-requires c =
     omega (
       arith,
       node-room c.requires.holds c.args.p.id
-          (sym (c.node_named-found.ensures c.requires.m c.requires.holds.words (count-nodes c.requires.holds)) ∙ c.in-At.is),
+          (sym (c.node_named-found.ensures c.requires.m c.requires.holds.words (count-nodes c.requires.holds)) ∙ c.in-Some.is),
       sound-words c.requires,
     )
 
@@ -39,7 +39,7 @@ overflow_mul-i-2 c =
     omega (
       arith,
       node-room c.requires.holds c.args.p.id
-          (sym (c.node_named-found.ensures c.requires.m c.requires.holds.words (count-nodes c.requires.holds)) ∙ c.in-At.is),
+          (sym (c.node_named-found.ensures c.requires.m c.requires.holds.words (count-nodes c.requires.holds)) ∙ c.in-Some.is),
     )
 
 pub overflow_add-i-3 : goal.overflow_add-i-3
@@ -47,7 +47,7 @@ overflow_add-i-3 c =
     omega (
       arith,
       node-room c.requires.holds c.args.p.id
-          (sym (c.node_named-found.ensures c.requires.m c.requires.holds.words (count-nodes c.requires.holds)) ∙ c.in-At.is),
+          (sym (c.node_named-found.ensures c.requires.m c.requires.holds.words (count-nodes c.requires.holds)) ∙ c.in-Some.is),
     )
 
 pub overflow_add-i-4 : goal.overflow_add-i-4
@@ -55,7 +55,7 @@ overflow_add-i-4 c =
     omega (
       arith,
       node-room c.requires.holds c.args.p.id
-          (sym (c.node_named-found.ensures c.requires.m c.requires.holds.words (count-nodes c.requires.holds)) ∙ c.in-At.is),
+          (sym (c.node_named-found.ensures c.requires.m c.requires.holds.words (count-nodes c.requires.holds)) ∙ c.in-Some.is),
     )
 
 pub paste_numbers-requires : goal.paste_numbers-requires
@@ -63,11 +63,11 @@ paste_numbers-requires c =
     omega (
       arith,
       node-room c.requires.holds c.args.p.id
-          (sym (c.node_named-found.ensures c.requires.m c.requires.holds.words (count-nodes c.requires.holds)) ∙ c.in-At.is),
+          (sym (c.node_named-found.ensures c.requires.m c.requires.holds.words (count-nodes c.requires.holds)) ∙ c.in-Some.is),
       sound-numbers c.requires,
     )
 
 pub returns : goal.returns
 returns c =
-    λ m h. place_set h c.args.p.id (sym (c.node_named-found.ensures m h.words (count-nodes h)) ∙ c.in-At.is)
+    λ m h. place_set h c.args.p.id (sym (c.node_named-found.ensures m h.words (count-nodes h)) ∙ c.in-Some.is)
     (record { x = c.args.p.x; y = c.args.p.y }) c.paste_words.ensures c.paste_numbers.ensures

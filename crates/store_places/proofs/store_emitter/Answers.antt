@@ -16,7 +16,7 @@ returns-in_default c =
 pub is_junction-requires : goal.is_junction-requires
 is_junction-requires c = (
   node-room c.requires.holds c.args.e.id
-      (sym (c.node_named-found.ensures c.requires.m c.requires.holds.words (count-nodes c.requires.holds)) ∙ c.in-At.is),
+      (sym (c.node_named-found.ensures c.requires.m c.requires.holds.words (count-nodes c.requires.holds)) ∙ c.in-Some.is),
   sound-words c.requires,
 )
 
@@ -25,7 +25,7 @@ overflow_mul-i c =
     omega (
       arith,
       node-room c.requires.holds c.args.e.id
-          (sym (c.node_named-found.ensures c.requires.m c.requires.holds.words (count-nodes c.requires.holds)) ∙ c.in-At.is),
+          (sym (c.node_named-found.ensures c.requires.m c.requires.holds.words (count-nodes c.requires.holds)) ∙ c.in-Some.is),
     )
 
 pub overflow_add-i : goal.overflow_add-i
@@ -33,7 +33,7 @@ overflow_add-i c =
     omega (
       arith,
       node-room c.requires.holds c.args.e.id
-          (sym (c.node_named-found.ensures c.requires.m c.requires.holds.words (count-nodes c.requires.holds)) ∙ c.in-At.is),
+          (sym (c.node_named-found.ensures c.requires.m c.requires.holds.words (count-nodes c.requires.holds)) ∙ c.in-Some.is),
     )
 
 pub overflow_add-i-then-is_junction : goal.overflow_add-i-then-is_junction
@@ -41,7 +41,7 @@ overflow_add-i-then-is_junction c =
     omega (
       arith,
       node-room c.requires.holds c.args.e.id
-          (sym (c.node_named-found.ensures c.requires.m c.requires.holds.words (count-nodes c.requires.holds)) ∙ c.in-At.is),
+          (sym (c.node_named-found.ensures c.requires.m c.requires.holds.words (count-nodes c.requires.holds)) ∙ c.in-Some.is),
     )
 
 pub paste_numbers-requires : goal.paste_numbers-requires
@@ -49,18 +49,18 @@ paste_numbers-requires c =
     omega (
       arith,
       node-room c.requires.holds c.args.e.id
-          (sym (c.node_named-found.ensures c.requires.m c.requires.holds.words (count-nodes c.requires.holds)) ∙ c.in-At.is),
+          (sym (c.node_named-found.ensures c.requires.m c.requires.holds.words (count-nodes c.requires.holds)) ∙ c.in-Some.is),
       sound-numbers c.requires,
     )
 
 pub returns-then-is_junction : goal.returns-then-is_junction
 returns-then-is_junction c =
-    λ m h. emitter-set h c.args.e.id (sym (c.node_named-found.ensures m h.words (count-nodes h)) ∙ c.in-At.is) c.args.e.coefficient
+    λ m h. emitter-set h c.args.e.id (sym (c.node_named-found.ensures m h.words (count-nodes h)) ∙ c.in-Some.is) c.args.e.coefficient
     (sym (c.is_junction.ensures c.args.text.now m h.words
-    (node-below h c.args.e.id (sym (c.node_named-found.ensures m h.words (count-nodes h)) ∙ c.in-At.is))) ∙ c.if-is_junction.true) c.paste_numbers.ensures
+    (node-below h c.args.e.id (sym (c.node_named-found.ensures m h.words (count-nodes h)) ∙ c.in-Some.is))) ∙ c.if-is_junction.true) c.paste_numbers.ensures
 
 pub returns : goal.returns
 returns c =
-    λ m h. no-junction h c.args.e.id (sym (c.node_named-found.ensures m h.words (count-nodes h)) ∙ c.in-At.is) c.args.e.coefficient
+    λ m h. no-junction h c.args.e.id (sym (c.node_named-found.ensures m h.words (count-nodes h)) ∙ c.in-Some.is) c.args.e.coefficient
     (sym (c.is_junction.ensures c.args.text.now m h.words
-    (node-below h c.args.e.id (sym (c.node_named-found.ensures m h.words (count-nodes h)) ∙ c.in-At.is))) ∙ c.if-is_junction.false)
+    (node-below h c.args.e.id (sym (c.node_named-found.ensures m h.words (count-nodes h)) ∙ c.in-Some.is))) ∙ c.if-is_junction.false)

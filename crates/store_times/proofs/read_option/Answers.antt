@@ -10,14 +10,14 @@ returns-in_default c = rw (c.next_field-f.ensures.nothing c.in_default.is)
 
 pub returns-then-joins : goal.returns-then-joins
 returns-then-joins c =
-    let field : (fields_at c.args.l.now c.args.word.end ≡ name_in c.args.l.now c.in-Taken.second ∷ fields_at c.args.l.now c.in-Taken.second.end) × Fits c.args.l.now c.in-Taken.second = c.next_field-f.ensures.taken _ c.in-Taken.is in
-    two-words (name_in c.args.l.now c.args.word) (name_in c.args.l.now c.in-Taken.second) _ _ (field).0 _
+    let field : (fields_at c.args.l.now c.args.word.end ≡ name_in c.args.l.now c.in-Some.second ∷ fields_at c.args.l.now c.in-Some.second.end) × Fits c.args.l.now c.in-Some.second = c.next_field-f.ensures.taken _ c.in-Some.is in
+    two-words (name_in c.args.l.now c.args.word) (name_in c.args.l.now c.in-Some.second) _ _ (field).0 _
     c.letters_of-a.ensures c.option_of_two-option.result c.read_seconds.result (sym c.if-joins.true ∙ c.joins.ensures) _
     c.letters_of.ensures c.option_of_two-option.ensures c.read_seconds.ensures
 
 pub returns : goal.returns
 returns c =
-    let field : (fields_at c.args.l.now c.args.word.end ≡ name_in c.args.l.now c.in-Taken.second ∷ fields_at c.args.l.now c.in-Taken.second.end) × Fits c.args.l.now c.in-Taken.second = c.next_field-f.ensures.taken _ c.in-Taken.is in
-    one_word (name_in c.args.l.now c.args.word) (name_in c.args.l.now c.in-Taken.second) _ _ (field).0 _
+    let field : (fields_at c.args.l.now c.args.word.end ≡ name_in c.args.l.now c.in-Some.second ∷ fields_at c.args.l.now c.in-Some.second.end) × Fits c.args.l.now c.in-Some.second = c.next_field-f.ensures.taken _ c.in-Some.is in
+    one_word (name_in c.args.l.now c.args.word) (name_in c.args.l.now c.in-Some.second) _ _ (field).0 _
     c.letters_of-a.ensures c.option_of-option.result c.read_seconds-2.result (sym c.if-joins.false ∙ c.joins.ensures)
     c.option_of-option.ensures c.read_seconds-2.ensures

@@ -10,7 +10,7 @@ returns-in_default c = rw (c.next_field-f.ensures.nothing c.in_default.is)
 
 pub returns : goal.returns
 returns c =
-    let field : (fields_at c.args.l.now c.args.at ≡ name_in c.args.l.now c.in-Taken.value ∷ fields_at c.args.l.now c.in-Taken.value.end) × Fits c.args.l.now c.in-Taken.value = c.next_field-f.ensures.taken _ c.in-Taken.is in
-    rw (field).0 (value_read-law c.args.option (name_in c.args.l.now c.in-Taken.value)
-    (fields_at c.args.l.now c.in-Taken.value.end) _ _ c.read_time.result c.time_from.result c.letters_of.ensures
+    let field : (fields_at c.args.l.now c.args.at ≡ name_in c.args.l.now c.in-Some.value ∷ fields_at c.args.l.now c.in-Some.value.end) × Fits c.args.l.now c.in-Some.value = c.next_field-f.ensures.taken _ c.in-Some.is in
+    rw (field).0 (value_read-law c.args.option (name_in c.args.l.now c.in-Some.value)
+    (fields_at c.args.l.now c.in-Some.value.end) _ _ c.read_time.result c.time_from.result c.letters_of.ensures
     c.field_or-unit.ensures c.read_time.ensures.value c.time_from.ensures)

@@ -12,11 +12,11 @@ returns-in_default c = rw (c.next_field-f.ensures.nothing c.in_default.is)
 
 pub returns-then-spells : goal.returns-then-spells
 returns-then-spells c =
-    let field : (fields_at c.args.l.now c.args.at ≡ name_in c.args.l.now c.in-Taken.word ∷ fields_at c.args.l.now c.in-Taken.word.end) × Fits c.args.l.now c.in-Taken.word = c.next_field-f.ensures.taken _ c.in-Taken.is in
-    statistic (name_in c.args.l.now c.in-Taken.word) _ _ (field).0 _ c.letters_of.ensures (sym c.spells.ensures ∙ c.if-spells.true)
+    let field : (fields_at c.args.l.now c.args.at ≡ name_in c.args.l.now c.in-Some.word ∷ fields_at c.args.l.now c.in-Some.word.end) × Fits c.args.l.now c.in-Some.word = c.next_field-f.ensures.taken _ c.in-Some.is in
+    statistic (name_in c.args.l.now c.in-Some.word) _ _ (field).0 _ c.letters_of.ensures (sym c.spells.ensures ∙ c.if-spells.true)
 
 pub returns : goal.returns
 returns c =
-    let field : (fields_at c.args.l.now c.args.at ≡ name_in c.args.l.now c.in-Taken.word ∷ fields_at c.args.l.now c.in-Taken.word.end) × Fits c.args.l.now c.in-Taken.word = c.next_field-f.ensures.taken _ c.in-Taken.is in
-    other (name_in c.args.l.now c.in-Taken.word) _ _ (field).0 _ c.letters_of.ensures c.read_option.result
+    let field : (fields_at c.args.l.now c.args.at ≡ name_in c.args.l.now c.in-Some.word ∷ fields_at c.args.l.now c.in-Some.word.end) × Fits c.args.l.now c.in-Some.word = c.next_field-f.ensures.taken _ c.in-Some.is in
+    other (name_in c.args.l.now c.in-Some.word) _ _ (field).0 _ c.letters_of.ensures c.read_option.result
     (sym c.spells.ensures ∙ c.if-spells.false) c.read_option.ensures

@@ -2,14 +2,14 @@
 
 use Rattle.store_times.proofs.time_from.Goals as goal
 
-pub returns-in-Seconds : goal.returns-in-Seconds
-returns-in-Seconds c = rw c.in-Seconds.is
+pub returns-in-Ok : goal.returns-in-Ok
+returns-in-Ok c = rw c.in-Ok.is
 
-pub returns-in-Malformed : goal.returns-in-Malformed
-returns-in-Malformed c = rw c.in-Malformed.is
+pub returns-in-Err-Malformed : goal.returns-in-Err-Malformed
+returns-in-Err-Malformed c = rw c.in-Err-Malformed.is
 
-pub returns-in-Beyond : goal.returns-in-Beyond
-returns-in-Beyond c = rw c.in-Beyond.is
+pub returns-in-Err-Beyond : goal.returns-in-Err-Beyond
+returns-in-Err-Beyond c = rw c.in-Err-Beyond.is
 
-pub returns-in-UnknownUnit : goal.returns-in-UnknownUnit
-returns-in-UnknownUnit c = rw c.in-UnknownUnit.is
+pub returns-in-Err-UnknownUnit : goal.returns-in-Err-UnknownUnit
+returns-in-Err-UnknownUnit c = rw c.in-Err-UnknownUnit.is

@@ -13,11 +13,11 @@ slice_bounds-read_times-end c = sym (length-take-le c.args.end c.args.text.now c
 pub put_time-requires : goal.put_time-requires
 put_time-requires c = sound-words c.requires.0
 
-pub returns-in-Timed : goal.returns-in-Timed
-returns-in-Timed c =
+pub returns-in-Ok : goal.returns-in-Ok
+returns-in-Ok c =
     λ m h. time-set h (fields_at (take c.args.end c.args.text.now) c.args.at) c.read_times-read.result c.read_times-read.ensures
-    c.in-Timed.t c.in-Timed.is c.put_time.ensures
+    c.in-Ok.t c.in-Ok.is c.put_time.ensures
 
-pub returns-in-NoTime : goal.returns-in-NoTime
-returns-in-NoTime c =
-    λ m h. time-bad h (fields_at (take c.args.end c.args.text.now) c.args.at) c.read_times-read.result c.read_times-read.ensures c.in-NoTime.is
+pub returns-in-Err : goal.returns-in-Err
+returns-in-Err c =
+    λ m h. time-bad h (fields_at (take c.args.end c.args.text.now) c.args.at) c.read_times-read.result c.read_times-read.ensures c.in-Err.is

@@ -3,4 +3,4 @@
 use Rattle.table_rows.proofs.name_words.Goals as goal
 
 pub returns : goal.returns
-returns c = rw (c.in-Taken.is, c.letters_of-l.ensures)
+returns c = rw (c.in-Some.is, c.letters_of-l.ensures)
