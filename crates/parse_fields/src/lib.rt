@@ -8,7 +8,7 @@ ghost use Rattle.leaf_fields.specs.Fields.{fields_at};
 ghost use Rattle.scope.specs.Values.{number_from, number_or, swallowed_from, flag_from};
 ghost use Rattle.parse_fields.specs.Taking.{took_number, took_flag, number_took, reason_in, Numbered};
 
-use leaf_decimals::{NumberError};
+use leaf_decimals::NumberError;
 use scope::Reason;
 
 pub fn as_number(n: Result<f64, NumberError>, next: usize) -> Result<(f64, usize), Reason>

@@ -5,7 +5,7 @@ ghost use Rattle.leaf_fields.specs.Fields.{fields_at};
 ghost use Rattle.scope.specs.Nodes.{junction_of, reservoir_of};
 ghost use Rattle.parse_nodes.specs.Lines.{JunctionAs, NodeAs};
 
-use leaf_fields::{Span};
+use leaf_fields::Span;
 
 use scope::{Reason, Tank};
 

@@ -6,7 +6,7 @@ ghost use Rattle.scope.specs.Nodes.{emitter_of};
 ghost use Rattle.scope.specs.Values.{pair_of};
 ghost use Rattle.parse_pairs.specs.Lines.{EmitterAs, PairAs};
 
-use leaf_fields::{Span};
+use leaf_fields::Span;
 use scope::Reason;
 
 #[derive(Clone, Copy)]

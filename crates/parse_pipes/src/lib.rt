@@ -7,7 +7,7 @@ ghost use Rattle.leaf_fields.specs.Fields.{fields_at};
 ghost use Rattle.scope.specs.Links.{status_in, pipe_of};
 ghost use Rattle.parse_pipes.specs.Lines.{NamesAs, LinkAs};
 
-use leaf_fields::{Span};
+use leaf_fields::Span;
 use scope::{LinkKind, Pipe, PipeStatus, Reason};
 
 // ---- what the lines say

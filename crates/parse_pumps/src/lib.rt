@@ -8,7 +8,7 @@ ghost use Rattle.parse_pipes.specs.Lines.{pump_in};
 ghost use Rattle.parse_pumps.specs.Lines.{PumpAs};
 
 use leaf_decimals::NumberError;
-use leaf_fields::{Span};
+use leaf_fields::Span;
 use scope::{Pump, Reason};
 
 // What a pump's word and its value make of the pump. A malformed number is swallowed; one beyond reach is refused even here.

@@ -5,7 +5,7 @@ ghost use Rattle.leaf_fields.specs.Fields.{fields_at};
 ghost use Rattle.scope.specs.Series.{multipliers_of, pattern_of, demand_of};
 ghost use Rattle.parse_series.specs.Lines.{CountedAs, PatternAs, DemandAs};
 
-use leaf_fields::{Span};
+use leaf_fields::Span;
 
 use scope::Reason;
 

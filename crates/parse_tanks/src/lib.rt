@@ -7,7 +7,7 @@ ghost use Rattle.scope.specs.Nodes.{tank_of, levels_of, curve_in, overflow_in};
 ghost use Rattle.parse_nodes.specs.Lines.{NodeAs};
 ghost use Rattle.parse_tanks.specs.Lines.{CurveAs};
 
-use leaf_fields::{Span};
+use leaf_fields::Span;
 use parse_nodes::{NodeRead, ReservoirLine, TankLine};
 use scope::{Reason, Tank};
 

@@ -1,11 +1,11 @@
 -- The patterns' places, set one record at a time. Assumes nothing.
+use Rattle.std.specs.Prelude.{None, Option, Some}
 use Prim.Native.Nat.{ℕ, zero, suc, ◌+◌, ◌-◌, ◌*◌, ◌≤◌, ◌<◌}
 use native.Mathlib.Omega.{arith}
 use native.Mathlib.Numerals.{add-one}
 use mathlib.Core.Path.{◌≡◌, refl, sym, ap, ◌∙◌, subst}
 use mathlib.Core.Bool.{Bool}
 use mathlib.Core.List.{List, [], ◌∷◌, ◌++◌, map}
-use mathlib.Core.Option.{Option, none, some}
 use lib.ListN.{length, take, drop, set, get_or}
 use lib.Seq.{set_split}
 use lib.Ieee.{Float}
@@ -24,13 +24,13 @@ use Rattle.read_end.specs.Resolving.{demand_resolved, node_resolved, demands_res
 -- ---- one name
 -- no name has no letters
 pub no-letters : (text : List ℕ) (ps : List Name) (o : Option Name) (at long : ℕ) → SitsOr text o → name_words o ≡ at ∷ long ∷ [] → long ≡ 0 → 0 ≡ index_no (index_of ps o)
-no-letters text ps none at long s e z = refl
-no-letters text ps (some n) at long s e z = absurd (let q : length n.letters ≡ long = cc in omega (arith, s.filled))
+no-letters text ps None at long s e z = refl
+no-letters text ps (Some n) at long s e z = absurd (let q : length n.letters ≡ long = cc in omega (arith, s.filled))
 
 pub some-letters : (text : List ℕ) (ps : List Name) (o : Option Name) (at long : ℕ) (name : List ℕ) (f : Option ℕ) → SitsOr text o → name_words o ≡ at ∷ long ∷ [] → (long ≡ 0 → ⊥)
     → name ≡ take long (drop at text) → f ≡ lookup ps name → index_no (place_in f) ≡ index_no (index_of ps o)
-some-letters text ps none at long name f s e z en ef = absurd (z (let q : 0 ≡ long = cc in sym q))
-some-letters text ps (some n) at long name f s e z en ef =
+some-letters text ps None at long name f s e z en ef = absurd (z (let q : 0 ≡ long = cc in sym q))
+some-letters text ps (Some n) at long name f s e z en ef =
     let a : n.at ≡ at = cc in
     let l : length n.letters ≡ long = cc in
     let k : n.at + length n.letters - n.at ≡ long = omega (arith, l) in
@@ -46,8 +46,8 @@ set-splice w i v h = set_split w i v h ∙ rw (add-one) (sym (assoc (take i w) v
     assoc (x ∷ a) v b = ap (λ l. x ∷ l) (assoc a v b)
 
 name-two : (o : Option Name) (i : ℕ) → (get_or (name_words o ++ (i ∷ [])) name_place 0 ∷ get_or (name_words o ++ (i ∷ [])) name_length 0 ∷ []) ≡ name_words o
-name-two none i = refl
-name-two (some n) i = refl
+name-two None i = refl
+name-two (Some n) i = refl
 
 -- ---- a demand
 demand-index : (d : Demand) (ps : List Name) → demand_words (resolved_demand ps d) ≡ splice (demand_words d) demand_index (index_no (index_of ps d.pattern) ∷ [])
@@ -56,8 +56,8 @@ demand-index d ps = go d.node d.own d.base d.pattern d.index
     go : (a : ℕ) (b : Bool) (x : Float) (o : Option Name) (i : Option ℕ)
         → demand_words (record { node = a; own = b; base = x; pattern = o; index = index_of ps o })
         ≡ splice (demand_words (record { node = a; own = b; base = x; pattern = o; index = i })) demand_index (index_no (index_of ps o) ∷ [])
-    go a b x none i = refl
-    go a b x (some n) i = refl
+    go a b x None i = refl
+    go a b x (Some n) i = refl
 
 module _ {text : List ℕ} {m : Network} {s : Counts} {w : List ℕ} {f : List Float} (h : Holds text m s w f) (k : ℕ) where
   module _ (hk : k < s.demands) where
@@ -90,8 +90,8 @@ module _ {text : List ℕ} {m : Network} {s : Counts} {w : List ℕ} {f : List F
 node-index : (ps : List Name) (id : Name) (place : Option Place) (x : Float) (o : Option Name) (i : Option ℕ)
     → node_words (record { id = id; kind = reservoir (record { elevation = x; pattern = o; index = index_of ps o }); place = place })
     ≡ splice (node_words (record { id = id; kind = reservoir (record { elevation = x; pattern = o; index = i }); place = place })) node_detail (index_no (index_of ps o) ∷ [])
-node-index ps id place x none i = refl
-node-index ps id place x (some n) i = refl
+node-index ps id place x None i = refl
+node-index ps id place x (Some n) i = refl
 
 module _ (ps : List Name) (id : Name) (place : Option Place) where
   abbrev node_of : NodeKind → Node
@@ -119,8 +119,8 @@ module _ (ps : List Name) (id : Name) (place : Option Place) where
       go : (o : Option Name) (i : ℕ) → name_words o
           ≡ get_or (id_words id ++ (2 ∷ name_words o ++ (i ∷ [])) ++ (placed place ∷ [])) (node_name + name_place) 0
           ∷ get_or (id_words id ++ (2 ∷ name_words o ++ (i ∷ [])) ++ (placed place ∷ [])) (node_name + name_length) 0 ∷ []
-      go none i = refl
-      go (some n) i = refl
+      go None i = refl
+      go (Some n) i = refl
   name_in-law (tank t) e = absurd (omega arith)
 
 pattern-resolved : (ps : List Name) (k : NodeKind) → pattern_in (resolved_kind ps k) ≡ pattern_in k

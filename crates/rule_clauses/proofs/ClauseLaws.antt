@@ -1,10 +1,9 @@
 -- What a condition and an action are, from what the code was told. Assumes nothing.
-use Rattle.std.specs.Prelude.{None, Some}
+use Rattle.std.specs.Prelude.{None, Some, Option}
 use Prim.Native.Nat.{ℕ}
 use mathlib.Core.Path.{◌≡◌, refl, ap}
 use mathlib.Core.Bool.{Bool, true, false, cond}
 use mathlib.Core.List.{List, [], ◌∷◌}
-use mathlib.Core.Option.{Option, some}
 use lib.ListN.{get_or}
 use Rattle.leaf_fields.specs.Fields.{Name, part, name_in, fields_at}
 use Rattle.leaf_letters.specs.Words.{same}
@@ -24,8 +23,8 @@ use Rattle.rule_clauses.specs.Clauses.{attribute_of, head_from, deed_from, actio
 -- an id and an attribute
 pub named-is : (k : Named) (l : List ℕ) (at : ℕ) (s t : Span) (o : Option Target) → fields_at l at ≡ name_in l s ∷ fields_at l s.end
     → fields_at l s.end ≡ name_in l t ∷ fields_at l t.end → attribute_of k (part t.at t.end l) ≡ o
-    → named_from (attribute_of k) (fields_at l at) ≡ aimed (some (name_in l s)) o (fields_at l t.end)
-named-is k l at s t o e f h = rw (e, f) (ap (λ (x : Option Target). aimed (some (name_in l s)) x (fields_at l t.end)) h)
+    → named_from (attribute_of k) (fields_at l at) ≡ aimed (Some (name_in l s)) o (fields_at l t.end)
+named-is k l at s t o e f h = rw (e, f) (ap (λ (x : Option Target). aimed (Some (name_in l s)) x (fields_at l t.end)) h)
 
 -- ---- an action in its three parts
 deed-out : (i : ℕ) (id : Name) (otherwise : Bool) (fs : List Name)

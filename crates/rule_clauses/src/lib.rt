@@ -10,7 +10,7 @@ ghost use Rattle.scope.specs.Rules.{of_kind, is_pipe, is_pump, is_valve, kind_fi
 ghost use Rattle.rule_clauses.specs.Clauses.{attribute_read, attribute_of, target_read, TargetFits, aim_in, value_read, condition_read, ConditionFits};
 ghost use Rattle.rule_clauses.specs.Clauses.{condition_on, head_from, head_read, HeadFits, kind_read, deed_from, rule_word, MayFit};
 
-use leaf_fields::{Span};
+use leaf_fields::Span;
 
 use scope::{
     Condition, LinkAttribute, LinkStatus, NodeAttribute, Operator, Reason, SystemAttribute,

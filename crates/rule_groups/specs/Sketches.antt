@@ -22,8 +22,8 @@ pub record Sketched (text : List ℕ) (d : Draft) (q : Sketch) : Type 0 where
   pub acting : d.acting ≡ q.acting
   pub otherwise : d.otherwise ≡ q.otherwise
   pub long : length d.clauses ≡ q.clauses
-  pub conditions : Some? is_condition d.clauses ≡ q.conditions
-  pub actions : Some? is_action d.clauses ≡ q.actions
+  pub conditions : some? is_condition d.clauses ≡ q.conditions
+  pub actions : some? is_action d.clauses ≡ q.actions
 
 abbrev pub SketchAs : List ℕ → Read Draft → Result Sketch Reason → Type 0
 SketchAs text o (Ok q) = (d : Draft) × (o ≡ good d) × Sketched text d q

@@ -10,7 +10,7 @@ ghost use Rattle.table_rows.specs.Holding.{Words};
 ghost use Rattle.rule_lines.specs.Lines.{with_said, said_read, LineFits};
 ghost use Rattle.rule_groups.specs.Sketches.{Sketched, SketchAs, JudgedAs};
 
-use leaf_fields::{Span};
+use leaf_fields::Span;
 use rule_lines::LineRead;
 use scope::{Counts, Kind, Reason};
 

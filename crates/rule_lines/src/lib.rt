@@ -11,7 +11,7 @@ ghost use Rattle.table_rows.specs.Holding.{Words};
 ghost use Rattle.rule_clauses.specs.Clauses.{value_read, condition_read, ConditionFits, head_in, action_with, action_at};
 ghost use Rattle.rule_lines.specs.Lines.{action_read, ActionFits, said_rank, said_condition, said_action, id_said, said_read, LineFits, said_of, said_by, and_said};
 
-use leaf_fields::{Span};
+use leaf_fields::Span;
 use rule_clauses::{ActionHead, RuleWord};
 use scope::{Action, Condition, Kind, Operator, Reason};
 

@@ -1,11 +1,10 @@
 -- A group's clauses stored one after another, and then its rule. Assumes nothing.
-use Rattle.std.specs.Prelude.{Err, Ok, Result}
+use Rattle.std.specs.Prelude.{Err, Ok, Result, None, Option, Some}
 use Prim.Native.Nat.{ℕ, ◌+◌, ◌-◌, ◌*◌, ◌≤◌, ◌<◌}
 use native.Mathlib.Omega.{arith}
 use mathlib.Core.Path.{◌≡◌, refl, sym, ap, ◌∙◌, subst}
 use mathlib.Core.Logic.{inl, inr}
 use mathlib.Core.List.{List, [], ◌∷◌, ◌++◌, append_assoc, append-nil}
-use mathlib.Core.Option.{Option, none, some}
 use lib.ListN.{length, take, get_or, length-append}
 use lib.Seq.{take_all, take-nil, take-append-le}
 use lib.Ieee.{Float}
@@ -161,13 +160,13 @@ module _ {m : Network} {text : List ℕ} {at first p : ℕ} {q : Sketch} {w : Li
 
 -- ---- the words of a clause's name, and of a rule
 pub name-row : (a b c d v v' : ℕ) (k : List ℕ) (o : Option Name) → v ≡ v' → k ≡ name_words o → a ∷ b ∷ c ∷ d ∷ v ∷ get_or k 0 0 ∷ get_or k 1 0 ∷ [] ≡ a ∷ b ∷ c ∷ d ∷ v' ∷ name_words o
-name-row a b c d v v' k none e f = rw (e, f)
-name-row a b c d v v' k (some n) e f = rw (e, f)
+name-row a b c d v v' k None e f = rw (e, f)
+name-row a b c d v v' k (Some n) e f = rw (e, f)
 
 pub rule-row : (k r : List ℕ) (first count : ℕ) (n : Name) (o : Option ℕ) → k ≡ id_words n → r ≡ count_words o
     → get_or k 0 0 ∷ get_or k 1 0 ∷ get_or k 2 0 ∷ first ∷ count ∷ get_or r 0 0 ∷ get_or r 1 0 ∷ [] ≡ id_words n ++ (first ∷ count ∷ count_words o)
-rule-row k r first count n none e f = rw (e, f)
-rule-row k r first count n (some p) e f = rw (e, f)
+rule-row k r first count n None e f = rw (e, f)
+rule-row k r first count n (Some p) e f = rw (e, f)
 
 -- ---- the group stored whole
 pub judge-asked : {text : List ℕ} {m : Network} {d : Draft} {q : Sketch} {s : Counts} {w w1 : List ℕ} {f f1 : List Float} → ClausesPut text m d q s w f w1 f1

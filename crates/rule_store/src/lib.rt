@@ -18,8 +18,8 @@ ghost use Rattle.rule_lines.specs.Lines.{action_in};
 ghost use Rattle.rule_groups.specs.Sketches.{rank_in};
 ghost use Rattle.rule_store.specs.Group.{rule_in, PutClause, Put, HoldsMore, fitting, Taken, ClausesPut};
 
-use leaf_fields::{Span};
-use rule_groups::{Sketch};
+use leaf_fields::Span;
+use rule_groups::Sketch;
 use rule_lines::LineRead;
 use scope::{Action, Condition, Counts, Value};
 

@@ -1,10 +1,10 @@
 -- The two tables lose nothing of a network whose names are written in the text. Assumes nothing.
+use Rattle.std.specs.Prelude.{None, Option, Some}
 use Prim.Native.Nat.{ℕ, ◌-◌}
 use native.Mathlib.Omega.{arith}
 use mathlib.Core.Path.{◌≡◌, refl, ap, ap₂, sym, ◌∙◌}
 use mathlib.Core.Bool.{Bool, true, false}
 use mathlib.Core.List.{List, [], ◌∷◌, ◌++◌}
-use mathlib.Core.Option.{Option, none, some}
 use lib.ListN.{length, take, drop, get_or, replicate, length-append, length-replicate}
 use lib.Ieee.{Float}
 use Rattle.leaf_fields.specs.Fields.{Name}
@@ -212,16 +212,16 @@ target-equal = by_place target_no xs (target.System system.Demand) at
     at (target.Link link.Setting) = refl
 
 index-equal : (a b : Option ℕ) → index_no a ≡ index_no b → a ≡ b
-index-equal none none e = refl
-index-equal none (some j) e = absurd (omega arith)
-index-equal (some i) none e = absurd (omega arith)
-index-equal (some i) (some j) e = let h : i ≡ j = omega arith in ap some h
+index-equal None None e = refl
+index-equal None (Some j) e = absurd (omega arith)
+index-equal (Some i) None e = absurd (omega arith)
+index-equal (Some i) (Some j) e = let h : i ≡ j = omega arith in ap Some h
 
 count-equal : (a b : Option ℕ) → count_words a ≡ count_words b → a ≡ b
-count-equal none none e = refl
-count-equal none (some n) e = absurd (let z : ◌≡◌ {A = ℕ} 0 1 = nth 0 e in omega arith)
-count-equal (some n) none e = absurd (let z : ◌≡◌ {A = ℕ} 1 0 = nth 0 e in omega arith)
-count-equal (some n) (some k) e = ap some (nth 1 e)
+count-equal None None e = refl
+count-equal None (Some n) e = absurd (let z : ◌≡◌ {A = ℕ} 0 1 = nth 0 e in omega arith)
+count-equal (Some n) None e = absurd (let z : ◌≡◌ {A = ℕ} 1 0 = nth 0 e in omega arith)
+count-equal (Some n) (Some k) e = ap Some (nth 1 e)
 
 status-some : (s : LinkStatus) → status_no s ≡ 0 → ⊥
 status-some Open e = omega arith
@@ -245,10 +245,10 @@ module _ (text : List ℕ) where
   id-equal n k s t e = name-equal n k s t (nth 0 e) (nth 1 e)
 
   maybe-equal : (a b : Option Name) → SitsOr text a → SitsOr text b → name_words a ≡ name_words b → a ≡ b
-  maybe-equal none none s t e = refl
-  maybe-equal none (some k) s t e = absurd (let z : 0 ≡ length k.letters = nth 1 e in omega (arith, t.some))
-  maybe-equal (some n) none s t e = absurd (let z : length n.letters ≡ 0 = nth 1 e in omega (arith, s.some))
-  maybe-equal (some n) (some k) s t e = ap some (name-equal n k s t (nth 0 e) (nth 1 e))
+  maybe-equal None None s t e = refl
+  maybe-equal None (Some k) s t e = absurd (let z : 0 ≡ length k.letters = nth 1 e in omega (arith, t.some))
+  maybe-equal (Some n) None s t e = absurd (let z : length n.letters ≡ 0 = nth 1 e in omega (arith, s.some))
+  maybe-equal (Some n) (Some k) s t e = ap Some (name-equal n k s t (nth 0 e) (nth 1 e))
 
 -- a name that may be missing, before other words
 name-split : (a b : Option Name) {x y : List ℕ} → name_words a ++ x ≡ name_words b ++ y → (name_words a ≡ name_words b) × (x ≡ y)
@@ -256,10 +256,10 @@ name-split a b e = append-split (name_words a) (name_words b) (name-long a ∙ s
 
 -- ---- nodes
 place-equal : (a b : Option Place) → placed a ≡ placed b → place_numbers a ≡ place_numbers b → a ≡ b
-place-equal none none e f = refl
-place-equal none (some q) e f = absurd (omega arith)
-place-equal (some p) none e f = absurd (omega arith)
-place-equal (some p) (some q) e f = λ i. some (record { x = nth_f 0 f i; y = nth_f 1 f i })
+place-equal None None e f = refl
+place-equal None (Some q) e f = absurd (omega arith)
+place-equal (Some p) None e f = absurd (omega arith)
+place-equal (Some p) (Some q) e f = λ i. Some (record { x = nth_f 0 f i; y = nth_f 1 f i })
 
 differ : {X : Type 0} (a b : ℕ) {x y : List ℕ} → a ∷ x ≡ b ∷ y → (a ≡ b → ⊥) → X
 differ a b e n = absurd (n (nth 0 e))

@@ -1,11 +1,10 @@
 -- What a group that is taken stores: its conditions and its actions, line by line. Assumes nothing.
-use Rattle.std.specs.Prelude.{None, Some}
+use Rattle.std.specs.Prelude.{None, Some, Option}
 use Prim.Native.Nat.{ℕ, ◌+◌}
 use native.Mathlib.Omega.{arith}
 use mathlib.Core.Path.{◌≡◌, refl, ap, ap₂, sym, ◌∙◌, subst}
 use mathlib.Core.Bool.{Bool, true, false, cond, ◌&&◌, ◌||◌}
 use mathlib.Core.List.{List, [], ◌∷◌, ◌++◌, map, append_assoc, append-nil, map-append}
-use mathlib.Core.Option.{Option, none, some}
 use lib.ListN.{length, take, drop, get_or}
 use lib.Seq.{take-length, drop-append_seam}
 use lib.Dec.{ltb, leb}
@@ -48,10 +47,10 @@ among-more w (x ∷ ls) l = go (opens_with w x) (among-more w ls l)
     go true e = refl
     go false e = e
 
-last_more : (o : Option (List Name)) (w : List ℕ) (ls : Ls) (l : List Name) → last_from o w (ls ++ (l ∷ [])) ≡ cond (opens_with w l) (some l) (last_from o w ls)
+last_more : (o : Option (List Name)) (w : List ℕ) (ls : Ls) (l : List Name) → last_from o w (ls ++ (l ∷ [])) ≡ cond (opens_with w l) (Some l) (last_from o w ls)
 unfolding last_from
 last_more o w [] l = refl
-last_more o w (x ∷ ls) l = last_more (cond (opens_with w x) (some x) o) w ls l
+last_more o w (x ∷ ls) l = last_more (cond (opens_with w x) (Some x) o) w ls l
 
 over-more : {X : Type 0} (say : Ls → List Name → List X) (b ls : Ls) (l : List Name) → over_lines say b (ls ++ (l ∷ [])) ≡ over_lines say b ls ++ say (b ++ ls) l
 unfolding over_lines
@@ -118,8 +117,8 @@ record Adds (m : Network) (ls : Ls) (d : Draft) (l : List Name) (e : Draft) : Ty
   actions : goods (actions_in new) ≡ action_at m ls l
   elses : elses_in new ≡ else_at ls l
   others : other_at ls l ≡ []
-  id : id_from (cond (opens_with word_rule l) (some l) (last_with word_rule ls)) ≡ good e.id
-  priority : priority_from (cond (opens_with word_priority l) (some l) (last_with word_priority ls)) ≡ good e.priority
+  id : id_from (cond (opens_with word_rule l) (Some l) (last_with word_rule ls)) ≡ good e.id
+  priority : priority_from (cond (opens_with word_priority l) (Some l) (last_with word_priority ls)) ≡ good e.priority
 
 goods-append : {A : Type 0} (xs ys : List A) → goods (xs ++ ys) ≡ goods xs ++ goods ys
 goods-append xs ys = map-append (λ x. good x) xs ys
@@ -138,16 +137,16 @@ module _ (m : Network) (ls : Ls) (d : Draft) (drafted : Drafted m ls d) where
         ∙ map-append (λ (x : Action). x.otherwise) (actions_in d.clauses) (actions_in a.new)
         ∙ ap₂ (λ x y. x ++ y) drafted.elses a.elses ∙ sym (over-more else_at [] ls l);
     others = over-more other_at [] ls l ∙ ap₂ (λ x y. x ++ y) drafted.others a.others;
-    id = ap id_from (last_more none word_rule ls l) ∙ a.id;
-    priority = ap priority_from (last_more none word_priority ls l) ∙ a.priority;
+    id = ap id_from (last_more None word_rule ls l) ∙ a.id;
+    priority = ap priority_from (last_more None word_priority ls l) ∙ a.priority;
   }
 
   -- ---- a line, by what it is
   module _ (l : List Name) (no-rule : opens_with word_rule l ≡ false) (no-priority : opens_with word_priority l ≡ false) where
-    same_id : id_from (cond (opens_with word_rule l) (some l) (last_with word_rule ls)) ≡ good d.id
+    same_id : id_from (cond (opens_with word_rule l) (Some l) (last_with word_rule ls)) ≡ good d.id
     same_id = rw no-rule drafted.id
 
-    same-priority : priority_from (cond (opens_with word_priority l) (some l) (last_with word_priority ls)) ≡ good d.priority
+    same-priority : priority_from (cond (opens_with word_priority l) (Some l) (last_with word_priority ls)) ≡ good d.priority
     same-priority = rw no-priority drafted.priority
 
     an-action : (t u mark : Bool) (a : Action) → t ≡ (d.acting || opens_with word_then l) → u ≡ (d.otherwise || opens_with word_else l)
@@ -275,7 +274,7 @@ module _ (m : Network) (ls : Ls) (d : Draft) (drafted : Drafted m ls d) where
         elses = refl;
         others = refl;
         id = drafted.id;
-        priority = ap (λ o. on_read o (λ i. good (some i))) w;
+        priority = ap (λ o. on_read o (λ i. good (Some i))) w;
       }
 
       go : (o : Read ℕ) → count_from fs ≡ o → on_read o (λ n. good (with_priority n d)) ≡ good e → Adds m ls d (line_with at word_priority fs) e
@@ -333,12 +332,12 @@ module _ (d : Draft) (m m' : Network) where
   if-room id None true k = cc
   if-room id None false k = absurd (let z : ◌≡◌ {A = ℕ} 0 1 = cc in omega arith)
 
-  on-id : (o : Option Name) → d.id ≡ o → named o d m ≡ good m' → (id : Name) × (d.id ≡ some id) × (m' ≡ with_rule id d m)
+  on-id : (o : Option Name) → d.id ≡ o → named o d m ≡ good m' → (id : Name) × (d.id ≡ Some id) × (m' ≡ with_rule id d m)
   unfolding add_rule
-  on-id none e k = absurd (let z : ◌≡◌ {A = ℕ} 0 1 = cc in omega arith)
-  on-id (some id) e k = (id, e, if-room id (lookup (rule_ids m) id.letters) (ltb (length m.rules) room_rules && leb (length m.clauses + length d.clauses) room_clauses) k)
+  on-id None e k = absurd (let z : ◌≡◌ {A = ℕ} 0 1 = cc in omega arith)
+  on-id (Some id) e k = (id, e, if-room id (lookup (rule_ids m) id.letters) (ltb (length m.rules) room_rules && leb (length m.clauses + length d.clauses) room_clauses) k)
 
-  judged-good : judged d m ≡ good m' → (id : Name) × (d.id ≡ some id) × (m' ≡ with_rule id d m)
+  judged-good : judged d m ≡ good m' → (id : Name) × (d.id ≡ Some id) × (m' ≡ with_rule id d m)
   unfolding judged
   judged-good k = on-id d.id refl (go (some? is_condition d.clauses) (some? is_action d.clauses) k)
     where

@@ -1,10 +1,9 @@
 -- Pipes, pumps and valves are read alike where places are forgotten. Assumes nothing.
 use Rattle.leaf_decimals.specs.declared.NumberError.{NumberError}
-use Rattle.std.specs.Prelude.{Err, Ok, Result}
+use Rattle.std.specs.Prelude.{Err, Ok, Result, Option}
 use Prim.Native.Nat.{ℕ}
 use mathlib.Core.Path.{◌≡◌, refl, ap, sym}
 use mathlib.Core.List.{List, [], ◌∷◌, map, map-append}
-use mathlib.Core.Option.{Option}
 use lib.ListN.{length, length-map}
 use lib.Dec.{ltb}
 use lib.Ieee.{Float}

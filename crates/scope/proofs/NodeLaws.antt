@@ -1,9 +1,9 @@
 -- Junctions, reservoirs, tanks, emitters and coordinates are read alike where places are forgotten. Assumes nothing.
+use Rattle.std.specs.Prelude.{None, Some}
 use Prim.Native.Nat.{ℕ}
 use mathlib.Core.Path.{◌≡◌, refl, ap, ap₂, sym, ◌∙◌, subst}
 use mathlib.Core.Bool.{Bool, true, false, cond, ◌&&◌}
 use mathlib.Core.List.{List, [], ◌∷◌, ◌++◌, map, map-append}
-use mathlib.Core.Option.{none, some}
 use lib.ListN.{length, get_or, length-map, get_or-map}
 use lib.Dec.{ltb}
 use lib.Ieee.{Float}
@@ -84,7 +84,7 @@ curve-in : (fs : List Name) → forget_maybe (curve_in fs) ≡ curve_in (map for
 curve-in [] = refl
 curve-in (f ∷ fs) = go (same f.letters sign_star)
   where
-    go : (t : Bool) → forget_maybe (cond t none (some f)) ≡ cond t none (some (forget f))
+    go : (t : Bool) → forget_maybe (cond t None (Some f)) ≡ cond t None (Some (forget f))
     go true = refl
     go false = refl
 

@@ -1,9 +1,9 @@
 -- Rule groups are read alike where places are forgotten. Assumes nothing.
+use Rattle.std.specs.Prelude.{None, Option, Some}
 use Prim.Native.Nat.{ℕ, ◌+◌}
 use mathlib.Core.Path.{◌≡◌, refl, ap, ap₂, sym, ◌∙◌, subst}
 use mathlib.Core.Bool.{Bool, true, false, ◌&&◌, ◌||◌}
 use mathlib.Core.List.{List, [], ◌∷◌, ◌++◌, map, map-append}
-use mathlib.Core.Option.{Option, none, some}
 use lib.ListN.{length, get_or, length-map, get_or-map}
 use lib.Dec.{ltb, leb}
 use Rattle.leaf_fields.specs.Fields.{Name}
@@ -29,17 +29,17 @@ abbrev forget_aim : Aim → Aim
 forget_aim a = record { target = a.target; name = forget_maybe a.name }
 
 aims : (n : Option Name) (t : Option Target) (fs : List Name) → TookLike forget_aim (aimed n t fs) (aimed (forget_maybe n) t (map forget fs))
-aims n none fs = refuseds
-aims n (some t) fs = tooks
+aims n None fs = refuseds
+aims n (Some t) fs = tooks
 
 system-from : (fs : List Name) → TookLike forget_aim (system_from fs) (system_from (map forget fs))
 system-from [] = refuseds
-system-from (a ∷ fs) = aims none (system_target a.letters) fs
+system-from (a ∷ fs) = aims None (system_target a.letters) fs
 
 named-from : (target : List ℕ → Option Target) (fs : List Name) → TookLike forget_aim (named_from target fs) (named_from target (map forget fs))
 named-from target [] = refuseds
 named-from target (n ∷ []) = refuseds
-named-from target (n ∷ a ∷ fs) = aims (some n) (target a.letters) fs
+named-from target (n ∷ a ∷ fs) = aims (Some n) (target a.letters) fs
 
 aim-from : (fs : List Name) → TookLike forget_aim (aim_from fs) (aim_from (map forget fs))
 unfolding aim_from
@@ -178,8 +178,8 @@ add-rule id d m =
     (goods (rule-added id d m)) bads)
 
 names : (id : Option Name) (d : Draft) (m : Network) → ReadLike bare (named id d m) (named (forget_maybe id) (forget_draft d) (bare m))
-names none d m = bads
-names (some id) d m = add-rule id d m
+names None d m = bads
+names (Some id) d m = add-rule id d m
 
 judges : (d : Draft) (m : Network) → ReadLike bare (judged d m) (judged (forget_draft d) (bare m))
 unfolding judged

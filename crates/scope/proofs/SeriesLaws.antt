@@ -1,10 +1,9 @@
 -- Curves, patterns and demands are read alike where places are forgotten, and the patterns' places are worked out alike. Assumes nothing.
-use Rattle.std.specs.Prelude.{Some}
+use Rattle.std.specs.Prelude.{Some, None, Option}
 use Prim.Native.Nat.{ℕ, suc}
 use mathlib.Core.Path.{◌≡◌, refl, ap, ap₂, sym, subst}
 use mathlib.Core.Bool.{cond, ◌&&◌}
 use mathlib.Core.List.{List, [], ◌∷◌, map, map-append}
-use mathlib.Core.Option.{Option, none, some}
 use lib.ListN.{length, get_or, length-map}
 use lib.Dec.{ltb, eqb}
 use lib.Ieee.{Float}
@@ -111,8 +110,8 @@ demand-step fs m = on_read-law _ (demand-of fs) (λ d. set-demand d.id d.base d.
 
 -- ---- the patterns' places
 index-of : (ps : List Name) (n : Option Name) → index_of ps n ≡ index_of (map forget ps) (forget_maybe n)
-index-of ps none = refl
-index-of ps (some n) = ap place_in (lookup-forget 0 ps n.letters)
+index-of ps None = refl
+index-of ps (Some n) = ap place_in (lookup-forget 0 ps n.letters)
 
 resolved-kind : (ps : List Name) (k : NodeKind) → forget_node_kind (resolved_kind ps k) ≡ resolved_kind (map forget ps) (forget_node_kind k)
 resolved-kind ps (junction j) = refl

@@ -1,9 +1,9 @@
 -- How many places each record takes in the two tables: what the layout says. Assumes nothing.
+use Rattle.std.specs.Prelude.{None, Option, Some}
 use Prim.Native.Nat.{ℕ, suc, ◌+◌}
 use native.Mathlib.Omega.{arith}
 use mathlib.Core.Path.{◌≡◌, refl, ap}
 use mathlib.Core.List.{[], ◌∷◌, ◌++◌}
-use mathlib.Core.Option.{Option, none, some}
 use lib.ListN.{length, length-append}
 use Rattle.leaf_fields.specs.Fields.{Name}
 use Rattle.scope.specs.Records.{Node, NodeKind, junction, reservoir, tank, Place, Link, LinkKind, pipe, pump, valve, Demand, Rule, Clause, condition, action}
@@ -12,17 +12,17 @@ use Rattle.scope.specs.Tables.{link_words, link_numbers_of, link_numbers, demand
 use Rattle.scope.specs.Layout.{name_width, times_width, nodes_width, node_numbers_width, links_width, link_numbers_width, demands_width, rules_width, clauses_width, clause_numbers_width}
 
 pub name-long : (n : Option Name) → length (name_words n) ≡ name_width
-name-long none = refl
-name-long (some n) = refl
+name-long None = refl
+name-long (Some n) = refl
 
 -- a name that may be missing, before one word more
 name-and : (n : Option Name) (x : ℕ) → length (name_words n ++ (x ∷ [])) ≡ 3
-name-and none x = refl
-name-and (some n) x = refl
+name-and None x = refl
+name-and (Some n) x = refl
 
 pub count_long : (n : Option ℕ) → length (count_words n) ≡ times_width
-count_long none = refl
-count_long (some n) = refl
+count_long None = refl
+count_long (Some n) = refl
 
 -- ---- nodes
 pub kind-long : (k : NodeKind) → length (kind_words k) ≡ 4
@@ -36,8 +36,8 @@ kind-numbers-long (reservoir r) = refl
 kind-numbers-long (tank t) = refl
 
 place-long : (p : Option Place) → length (place_numbers p) ≡ 2
-place-long none = refl
-place-long (some p) = refl
+place-long None = refl
+place-long (Some p) = refl
 
 pub node-long : (n : Node) → length (node_words n) ≡ nodes_width
 node-long n =

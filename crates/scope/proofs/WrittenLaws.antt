@@ -1,13 +1,12 @@
 -- Every network that a reading gives has its names written in the text. Assumes nothing.
 use Rattle.leaf_decimals.specs.declared.NumberError.{NumberError}
-use Rattle.std.specs.Prelude.{Err, None, Ok, Result, Some}
+use Rattle.std.specs.Prelude.{Err, None, Ok, Result, Some, Option}
 use Prim.{Unit, tt}
 use Prim.Native.Nat.{ℕ, zero, suc, ◌+◌, ◌-◌, ◌≤◌}
 use native.Mathlib.Omega.{arith}
 use mathlib.Core.Path.{◌≡◌, ap, sym, ◌∙◌, subst}
 use mathlib.Core.Bool.{Bool, true, false, cond, ◌&&◌}
 use mathlib.Core.List.{List, [], ◌∷◌, ◌++◌, map}
-use mathlib.Core.Option.{Option, none, some}
 use lib.ListN.{length, take, drop, set, get_or, length-set, length-take}
 use lib.Seq.{take-take}
 use lib.Dec.{ltb, leb}
@@ -200,7 +199,7 @@ module _ (text : List ℕ) where
   curve-in nothing = tt
   curve-in (each {x} p ps) = go (same x.letters sign_star)
     where
-      go : (t : Bool) → SitsOr text (cond t none (some x))
+      go : (t : Bool) → SitsOr text (cond t None (Some x))
       go true = tt
       go false = p
 
@@ -427,12 +426,12 @@ module _ (text : List ℕ) where
   with-times xs w l = record { nodes = w.nodes; links = w.links; curves = w.curves; patterns = w.patterns; demands = w.demands; rules = w.rules; clauses = w.clauses; times = l }
 
   time-set : (o : TimeOption) (n : ℕ) (m : Network) → Written text m → Written text (set_time o n m)
-  time-set Duration n m w = with-times _ w (length-set m.times 0 (some n) ∙ w.times)
-  time-set HydraulicTimestep n m w = with-times _ w (length-set m.times 1 (some n) ∙ w.times)
-  time-set PatternTimestep n m w = with-times _ w (length-set m.times 2 (some n) ∙ w.times)
-  time-set ReportTimestep n m w = with-times _ w (length-set m.times 3 (some n) ∙ w.times)
-  time-set PatternStart n m w = with-times _ w (length-set m.times 4 (some n) ∙ w.times)
-  time-set StartClocktime n m w = with-times _ w (length-set m.times 5 (some n) ∙ w.times)
+  time-set Duration n m w = with-times _ w (length-set m.times 0 (Some n) ∙ w.times)
+  time-set HydraulicTimestep n m w = with-times _ w (length-set m.times 1 (Some n) ∙ w.times)
+  time-set PatternTimestep n m w = with-times _ w (length-set m.times 2 (Some n) ∙ w.times)
+  time-set ReportTimestep n m w = with-times _ w (length-set m.times 3 (Some n) ∙ w.times)
+  time-set PatternStart n m w = with-times _ w (length-set m.times 4 (Some n) ∙ w.times)
+  time-set StartClocktime n m w = with-times _ w (length-set m.times 5 (Some n) ∙ w.times)
   time-set Dropped n m w = w
 
   pub times-step : (fs : List Name) (m : Network) → Written text m → Fine (Written text) (times_step fs m)
@@ -444,17 +443,17 @@ module _ (text : List ℕ) where
   AimFine a = SitsOr text a.name
 
   aims : (n : Option Name) (t : Option Target) {fs : List Name} → SitsOr text n → All fs → Fresh AimFine (aimed n t fs)
-  aims n none h s = stale
-  aims n (some t) h s = fresh h s
+  aims n None h s = stale
+  aims n (Some t) h s = fresh h s
 
   system-from : {fs : List Name} → All fs → Fresh AimFine (system_from fs)
   system-from nothing = stale
-  system-from (each {x} p ps) = aims none (system_target x.letters) tt ps
+  system-from (each {x} p ps) = aims None (system_target x.letters) tt ps
 
   named-from : (target : List ℕ → Option Target) {fs : List Name} → All fs → Fresh AimFine (named_from target fs)
   named-from target nothing = stale
   named-from target (each p nothing) = stale
-  named-from target (each {x = x} p (each {x = y} q s)) = aims (some x) (target y.letters) p s
+  named-from target (each {x = x} p (each {x = y} q s)) = aims (Some x) (target y.letters) p s
 
   aim-from : {fs : List Name} → All fs → Fresh AimFine (aim_from fs)
   unfolding aim_from
@@ -536,8 +535,8 @@ module _ (text : List ℕ) where
       })) badly)
 
   names : (id : Option Name) (d : Draft) (m : Network) → SitsOr text id → DraftFine d → Written text m → Fine (Written text) (named id d m)
-  names none d m h f w = badly
-  names (some id) d m h f w = add-rule id d m h f w
+  names None d m h f w = badly
+  names (Some id) d m h f w = add-rule id d m h f w
 
   pub group-written : (ls : List (List Name)) (m : Network) → Each All ls → Written text m → Fine (Written text) (group_step ls m)
   unfolding group_step judged

@@ -245,8 +245,8 @@ is_action (condition c) = false
 is_action (action a) = true
 
 abbrev pub some? : (Clause → Bool) → List Clause → Bool
-Some? is [] = false
-Some? is (c ∷ cs) = is c || Some? is cs
+some? is [] = false
+some? is (c ∷ cs) = is c || some? is cs
 
 abbrev pub with_rule : Name → Draft → Network → Network
 with_rule id d m =
@@ -263,7 +263,7 @@ named None d m = bad NoId
 named (Some id) d m = add_rule id d m
 
 unfoldable pub judged : Draft → Network → Read Network
-judged d m = cond (Some? is_condition d.clauses) (cond (Some? is_action d.clauses) (named d.id d m) (bad NoAction)) (bad NoCondition)
+judged d m = cond (some? is_condition d.clauses) (cond (some? is_action d.clauses) (named d.id d m) (bad NoAction)) (bad NoCondition)
 
 -- what a group's lines, as their fields, do to the network: "Links are looked up when the group closes."
 unfoldable pub group_step : List (List Name) → Network → Read Network

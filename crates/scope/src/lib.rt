@@ -1,7 +1,7 @@
 // The vocabulary of document 01, declared once. What each word means is said in specs/, heading by heading of the paper.
 #![tactic(auto)]
 
-use leaf_fields::{Span};
+use leaf_fields::Span;
 
 // "Sections read and sections passed over": the thirteen that are read, and whatever is passed over.
 #[derive(Clone, Copy)]
@@ -137,7 +137,7 @@ pub enum TimeOption {
 #[derive(Clone, Copy)]
 pub enum SystemAttribute {
     Demand,
-    Result<u64, TimeError>,
+    Time,
     Clocktime,
 }
 

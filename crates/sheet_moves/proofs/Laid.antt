@@ -1,12 +1,11 @@
 -- In every network that is read the rules lie end to end over the clauses, and each action's link is one of the links. Assumes nothing.
-use Rattle.std.specs.Prelude.{None, Some}
+use Rattle.std.specs.Prelude.{None, Some, Option}
 use Prim.{Unit, tt}
 use Prim.Native.Nat.{ℕ, ◌+◌, ◌<◌, ◌≤◌}
 use native.Mathlib.Omega.{arith}
 use mathlib.Core.Path.{◌≡◌, refl, sym, ap, ◌∙◌}
 use mathlib.Core.Bool.{Bool, true, false, cond, ◌&&◌}
 use mathlib.Core.List.{List, [], ◌∷◌, ◌++◌, map}
-use mathlib.Core.Option.{Option, none, some}
 use lib.ListN.{length, get_or, length-append, length-map}
 use lib.Dec.{ltb, leb}
 use Rattle.leaf_fields.specs.Fields.{Name}
@@ -268,8 +267,8 @@ module _ (m : Network) where
         })) badly)
 
     names : (id : Option Name) (d : Draft) → DraftLinked d → Fine Laid (named id d m)
-    names none d f = badly
-    names (some id) d f = add-rule id d f
+    names None d f = badly
+    names (Some id) d f = add-rule id d f
 
     group-step : (ls : List (List Name)) → Fine Laid (group_step ls m)
     unfolding group_step judged

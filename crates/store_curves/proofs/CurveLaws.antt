@@ -1,13 +1,12 @@
 -- The last x of a curve, looked for from the end on; and what storing a point makes of the network. Assumes nothing.
 use Rattle.scope.specs.declared.Reason.{Reason}
-use Rattle.std.specs.Prelude.{Err, None, Ok, Result, Some}
+use Rattle.std.specs.Prelude.{Err, None, Ok, Result, Some, Option}
 use Prim.Native.Nat.{ℕ, suc, ◌+◌, ◌-◌, ◌*◌, ◌≤◌, ◌<◌}
 use native.Mathlib.Omega.{arith}
 use borrow.Author.Tests.{lt-ltb, le-ltb, eq-eqb, ne_eqb}
 use mathlib.Core.Path.{◌≡◌, refl, ap, ◌∙◌}
 use mathlib.Core.Bool.{Bool, true, false, cond, ◌&&◌}
 use mathlib.Core.List.{List, [], ◌∷◌, ◌++◌}
-use mathlib.Core.Option.{Option, none, some}
 use lib.ListN.{length, take, get_or, length-append}
 use lib.Seq.{take-suc, take_all}
 use lib.Dec.{ltb, eqb}
@@ -28,19 +27,19 @@ use Rattle.table_rows.proofs.ReadLaws.{point-word, point-number}
 
 -- ---- the last point of a list comes first
 or-again : (a b c : Option Float) → or_else (or_else a b) c ≡ or_else a (or_else b c)
-or-again none b c = refl
-or-again (some x) b c = refl
+or-again None b c = refl
+or-again (Some x) b c = refl
 
-or-none : (a : Option Float) → a ≡ or_else a none
-or-none none = refl
-or-none (some x) = refl
+or-none : (a : Option Float) → a ≡ or_else a None
+or-none None = refl
+or-none (Some x) = refl
 
-last_of : (i : ℕ) (ps : List Point) (p : Point) → last_x i (ps ++ (p ∷ [])) ≡ or_else (cond (eqb p.curve i) (some p.x) none) (last_x i ps)
+last_of : (i : ℕ) (ps : List Point) (p : Point) → last_x i (ps ++ (p ∷ [])) ≡ or_else (cond (eqb p.curve i) (Some p.x) None) (last_x i ps)
 unfolding last_x
-last_of i [] p = or-none (cond (eqb p.curve i) (some p.x) none)
-last_of i (q ∷ ps) p = rw (last_of i ps p) (or-again (cond (eqb p.curve i) (some p.x) none) (last_x i ps) (cond (eqb q.curve i) (some q.x) none))
+last_of i [] p = or-none (cond (eqb p.curve i) (Some p.x) None)
+last_of i (q ∷ ps) p = rw (last_of i ps p) (or-again (cond (eqb p.curve i) (Some p.x) None) (last_x i ps) (cond (eqb q.curve i) (Some q.x) None))
 
--- ---- the scan: the points from number k on are none of the curve's
+-- ---- the scan: the points from number k on are None of the curve's
 pub record Sought (w : List ℕ) (f : List Float) (points curve k : ℕ) : Type 0 where
   pub upto : k ≤ points
   pub left : (text : List ℕ) (m : Network) → Words text m w → Numbers m f → points ≡ length m.points → last_x curve m.points ≡ last_x curve (take k m.points)
@@ -51,7 +50,7 @@ module _ (w : List ℕ) (f : List Float) (points curve : ℕ) where
 
   module _ {k : ℕ} (g : Sought w f points curve k) (more : 0 < k) where
     split : {text : List ℕ} {m : Network} → Words text m w → Numbers m f → points ≡ length m.points
-        → last_x curve m.points ≡ or_else (cond (eqb (get_or w (points_at + (k - 1)) 0) curve) (some (get_or m.points (k - 1) no_point).x) none) (last_x curve (take (k - 1) m.points))
+        → last_x curve m.points ≡ or_else (cond (eqb (get_or w (points_at + (k - 1)) 0) curve) (Some (get_or m.points (k - 1) no_point).x) None) (last_x curve (take (k - 1) m.points))
     split {text} {m} hw hf e =
         let hi : k - 1 < length m.points = omega (arith, g.upto) in
         let q : k ≡ suc (k - 1) = omega arith in

@@ -10,7 +10,7 @@ ghost use Rattle.table_rows.specs.Table.{splice};
 ghost use Rattle.scope.specs.Layout.{points_at, point_numbers_at, point_numbers_width, record_words, room_numbers};
 ghost use Rattle.table_rows.specs.Holding.{Words, Numbers, Holds, Sound, After};
 
-use parse_pairs::{PairLine};
+use parse_pairs::PairLine;
 use scope::{Counts, Kind, Reason};
 
 // Whether x is less than the last x of a curve: its last point is looked for from the end on.

@@ -1,6 +1,6 @@
 -- A junction's own demand, looked for; and what storing a demand makes of the network. Assumes nothing.
 use Rattle.scope.specs.declared.Reason.{Reason}
-use Rattle.std.specs.Prelude.{Err, None, Ok, Result, Some}
+use Rattle.std.specs.Prelude.{Err, None, Ok, Result, Some, Option}
 use Prim.Native.Nat.{ℕ, zero, suc, ◌+◌, ◌-◌, ◌*◌, ◌%◌, ◌≤◌, ◌<◌}
 use native.Mathlib.Omega.{arith}
 use native.Mathlib.Numerals.{add-one}
@@ -8,7 +8,6 @@ use borrow.Author.Tests.{lt-ltb, le-ltb, eq-eqb, ne_eqb, eqb-true}
 use mathlib.Core.Path.{◌≡◌, refl, sym, ap, ◌∙◌}
 use mathlib.Core.Bool.{Bool, true, false, cond, ◌&&◌, false≢true}
 use mathlib.Core.List.{List, [], ◌∷◌, ◌++◌}
-use mathlib.Core.Option.{Option, none, some}
 use lib.ListN.{length, drop, get_or, length-append, drop_of_length-le}
 use lib.Seq.{drop-cons}
 use lib.Dec.{eqb}
@@ -144,8 +143,8 @@ own-node node ds k e = let z : k - 0 ≡ k = omega arith in rw z at (own_row 0 n
 
 -- ---- the words of a demand
 two-words : (o : Option Name) → name_words o ≡ get_or (name_words o) name_place 0 ∷ get_or (name_words o) name_length 0 ∷ []
-two-words none = refl
-two-words (some n) = refl
+two-words None = refl
+two-words (Some n) = refl
 
 pub words-two : (text : List ℕ) (f : Option Span) {p : List ℕ} → p ≡ name_words (opt_in text f) → length p ≡ name_width
 words-two text f e = ap length (e ∙ two-words (opt_in text f))

@@ -13,7 +13,7 @@ ghost use Rattle.scope.specs.Layout.{demands_at, demands_width, demand_numbers_a
 ghost use Rattle.table_rows.specs.Holding.{Words, Holds, Sound, After};
 ghost use Rattle.store_demands.specs.Storing.{is_own};
 
-use parse_series::{DemandLine};
+use parse_series::DemandLine;
 use scope::{Counts, Reason};
 
 // Whether demand number k is that of the junction's own line.

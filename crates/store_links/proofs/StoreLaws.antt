@@ -1,11 +1,10 @@
 -- What storing a link makes of the network. Assumes nothing.
-use Rattle.std.specs.Prelude.{Err, None, Ok, Some}
+use Rattle.std.specs.Prelude.{Err, None, Ok, Some, Option}
 use Prim.Native.Nat.{ℕ, ◌+◌, ◌*◌, ◌≤◌, ◌<◌}
 use native.Mathlib.Omega.{arith}
 use borrow.Author.Tests.{lt-ltb, le-ltb}
 use mathlib.Core.Path.{◌≡◌, refl, ap, subst}
 use mathlib.Core.List.{List, [], ◌∷◌, ◌++◌}
-use mathlib.Core.Option.{Option, none, some}
 use lib.ListN.{length, get_or, length-append}
 use lib.Ieee.{Float}
 use Rattle.leaf_fields.specs.Fields.{Name}
@@ -25,8 +24,8 @@ use Rattle.store_links.specs.Storing.{ends_at, EndsAs}
 
 -- ---- the words of a link, one by one
 pub name-pair : (n : Option Name) → get_or (name_words n) 0 0 ∷ get_or (name_words n) 1 0 ∷ [] ≡ name_words n
-name-pair (some n) = refl
-name-pair none = refl
+name-pair (Some n) = refl
+name-pair None = refl
 
 kind_row : (k : LinkKind) → get_or (link_kind_words k) 0 0 ∷ get_or (link_kind_words k) 1 0 ∷ get_or (link_kind_words k) 2 0 ∷ get_or (link_kind_words k) 3 0 ∷ [] ≡ link_kind_words k
 kind_row (pipe p) = refl

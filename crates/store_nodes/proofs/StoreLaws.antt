@@ -1,11 +1,10 @@
 -- What storing a node makes of the network. Assumes nothing.
-use Rattle.std.specs.Prelude.{Err, None, Ok, Some}
+use Rattle.std.specs.Prelude.{Err, None, Ok, Some, Option}
 use Prim.Native.Nat.{ℕ, ◌+◌, ◌*◌, ◌%◌, ◌≤◌, ◌<◌}
 use native.Mathlib.Omega.{arith}
 use borrow.Author.Tests.{lt-ltb, le-ltb}
 use mathlib.Core.Path.{◌≡◌, refl, sym, ap, ◌∙◌}
 use mathlib.Core.List.{List, [], ◌∷◌, ◌++◌}
-use mathlib.Core.Option.{Option, none, some}
 use lib.ListN.{length, get_or, length-append}
 use lib.Ieee.{Float}
 use Rattle.leaf_fields.specs.Fields.{Name, name_in, part, Fits, opt_in, MayFit}
@@ -30,16 +29,16 @@ use Rattle.parse_nodes.specs.declared.ReservoirLine.{ReservoirLine}
 -- ---- the words that are put
 pub new-words : (i l : List ℕ) (n : Name) (kind : ℕ) (p : Option Name) (last : ℕ) → i ≡ id_words n → l ≡ name_words p
     → ◌≡◌ {A = List ℕ} (get_or i 0 0 ∷ get_or i 1 0 ∷ get_or i 2 0 ∷ kind ∷ get_or l 0 0 ∷ get_or l 1 0 ∷ last ∷ 0 ∷ []) (new_words n kind p last)
-new-words i l n kind none last ei el = rw (ei, el)
-new-words i l n kind (some q) last ei el = rw (ei, el)
+new-words i l n kind None last ei el = rw (ei, el)
+new-words i l n kind (Some q) last ei el = rw (ei, el)
 
 pub own-words : (l : List ℕ) (n : ℕ) (p : Option Name) → l ≡ name_words p → ◌≡◌ {A = List ℕ} (n ∷ 1 ∷ get_or l 0 0 ∷ get_or l 1 0 ∷ 0 ∷ []) (own_words n p)
-own-words l n none e = rw e
-own-words l n (some q) e = rw e
+own-words l n None e = rw e
+own-words l n (Some q) e = rw e
 
 -- ---- a reservoir or a tank
 pub reservoir-kind : (text : List ℕ) (r : ReservoirLine) → MayFit text r.pattern
-    → KindAs text (reservoir (record { elevation = r.elevation; pattern = opt_in text r.pattern; index = none })) 2 r.pattern 0
+    → KindAs text (reservoir (record { elevation = r.elevation; pattern = opt_in text r.pattern; index = None })) 2 r.pattern 0
     (r.elevation ∷ zero_f ∷ zero_f ∷ zero_f ∷ zero_f ∷ zero_f ∷ zero_f ∷ zero_f ∷ [])
 reservoir-kind text r may = record { words = refl; numbers = λ id. refl; pattern = sits-field text r.pattern may }
 

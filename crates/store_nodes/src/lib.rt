@@ -16,7 +16,7 @@ ghost use Rattle.table_rows.specs.Holding.{Holds, Sound, After};
 ghost use Rattle.parse_nodes.specs.Lines.{junction_in, reservoir_in, tank_in, NodeAs};
 ghost use Rattle.store_nodes.specs.Storing.{new_node, new_words, own_words, KindAs};
 
-use leaf_fields::{Span};
+use leaf_fields::Span;
 use parse_nodes::{JunctionLine, NodeRead, ReservoirLine};
 use scope::{Counts, Kind, Reason, Tank};
 

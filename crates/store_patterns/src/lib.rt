@@ -12,7 +12,7 @@ ghost use Rattle.scope.specs.Layout.{multipliers_at, multiplier_numbers_at, reco
 ghost use Rattle.table_rows.specs.Holding.{Holds, Sound, After};
 ghost use Rattle.parse_series.specs.Lines.{Multipliers};
 
-use parse_series::{PatternLine};
+use parse_series::PatternLine;
 use scope::{Counts, Kind, Reason};
 
 // The numbers from `at` on as multipliers of a pattern, from multiplier number `k` on.

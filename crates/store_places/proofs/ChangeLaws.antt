@@ -1,11 +1,10 @@
 -- What a line of EMITTERS or COORDINATES makes of the network: a node is changed in its place. Assumes nothing.
-use Rattle.std.specs.Prelude.{Err, None, Ok, Some}
+use Rattle.std.specs.Prelude.{Err, None, Ok, Some, Option}
 use Prim.Native.Nat.{ℕ, ◌+◌, ◌*◌, ◌<◌}
 use native.Mathlib.Omega.{arith}
 use mathlib.Core.Path.{◌≡◌, refl, sym, ap, ◌∙◌}
 use mathlib.Core.Bool.{true, false}
 use mathlib.Core.List.{List, [], ◌∷◌, ◌++◌}
-use mathlib.Core.Option.{Option, none, some}
 use lib.ListN.{length, get_or}
 use lib.Ieee.{Float}
 use Rattle.leaf_fields.specs.Fields.{Name, name_in, part}
@@ -33,21 +32,21 @@ emit-numbers n j x q = rw q
 
 place-word : (id : Name) (kind : ℕ) (p : Option Name) (last a b : ℕ)
     → ◌≡◌ {A = List ℕ} (id_words id ++ (kind ∷ name_words p ++ (last ∷ [])) ++ (b ∷ [])) (splice (id_words id ++ (kind ∷ name_words p ++ (last ∷ [])) ++ (a ∷ [])) node_placed (b ∷ []))
-place-word id kind none last a b = refl
-place-word id kind (some n) last a b = refl
+place-word id kind None last a b = refl
+place-word id kind (Some n) last a b = refl
 
 kind-place-word : (id : Name) (k : NodeKind) (a b : ℕ) → id_words id ++ kind_words k ++ (b ∷ []) ≡ splice (id_words id ++ kind_words k ++ (a ∷ [])) node_placed (b ∷ [])
-kind-place-word id (junction j) a b = place-word id 1 none (flag j.disabled) a b
+kind-place-word id (junction j) a b = place-word id 1 None (flag j.disabled) a b
 kind-place-word id (reservoir r) a b = place-word id 2 r.pattern (index_no r.index) a b
 kind-place-word id (tank t) a b = place-word id 3 t.curve (flag t.overflow) a b
 
 kind-place-numbers : (k : NodeKind) (o : Option Place) (x y : Float) → kind_numbers k ++ (x ∷ y ∷ []) ≡ splice (kind_numbers k ++ place_numbers o) node_x (x ∷ y ∷ [])
-kind-place-numbers (junction j) none x y = refl
-kind-place-numbers (junction j) (some p) x y = refl
-kind-place-numbers (reservoir r) none x y = refl
-kind-place-numbers (reservoir r) (some p) x y = refl
-kind-place-numbers (tank t) none x y = refl
-kind-place-numbers (tank t) (some p) x y = refl
+kind-place-numbers (junction j) None x y = refl
+kind-place-numbers (junction j) (Some p) x y = refl
+kind-place-numbers (reservoir r) None x y = refl
+kind-place-numbers (reservoir r) (Some p) x y = refl
+kind-place-numbers (tank t) None x y = refl
+kind-place-numbers (tank t) (Some p) x y = refl
 
 module _ {text : List ℕ} {m : Network} {s : Counts} {w : List ℕ} {f : List Float} (h : Holds text m s w f) (id : Span) where
   pub no-emitter : (x : Float) → lookup (node_ids m) (part id.at id.end text) ≡ None → After text (set_emitter (name_in text id) x m) (Err NotFound) w f w f

@@ -4,7 +4,6 @@ use Prim.Native.Nat.{ℕ, ◌<◌}
 use native.Mathlib.Omega.{arith}
 use mathlib.Core.Path.{◌≡◌, refl, ap, ◌∙◌, subst}
 use mathlib.Core.List.{List}
-use mathlib.Core.Option.{some}
 use lib.Ieee.{Float}
 use Rattle.leaf_fields.specs.Fields.{Name}
 use Rattle.scope.specs.Records.{Network}
@@ -34,12 +33,12 @@ kept-below o e = subst (λ (p : Option ℕ). Below room_times p) e (place-below 
 
 module _ {text : List ℕ} {m : Network} {s : Counts} {w : List ℕ} {f : List Float} (h : Holds text m s w f) where
   after-put : (o : TimeOption) (n : ℕ) {w1 : List ℕ} → w1 ≡ time_put o n w → After text (good (set_time o n m)) (Ok s) w f w1 f
-  after-put Duration n e = (ap Ok h.counts, set-time h 0 (some n) (omega arith) e)
-  after-put HydraulicTimestep n e = (ap Ok h.counts, set-time h 1 (some n) (omega arith) e)
-  after-put PatternTimestep n e = (ap Ok h.counts, set-time h 2 (some n) (omega arith) e)
-  after-put ReportTimestep n e = (ap Ok h.counts, set-time h 3 (some n) (omega arith) e)
-  after-put PatternStart n e = (ap Ok h.counts, set-time h 4 (some n) (omega arith) e)
-  after-put StartClocktime n e = (ap Ok h.counts, set-time h 5 (some n) (omega arith) e)
+  after-put Duration n e = (ap Ok h.counts, set-time h 0 (Some n) (omega arith) e)
+  after-put HydraulicTimestep n e = (ap Ok h.counts, set-time h 1 (Some n) (omega arith) e)
+  after-put PatternTimestep n e = (ap Ok h.counts, set-time h 2 (Some n) (omega arith) e)
+  after-put ReportTimestep n e = (ap Ok h.counts, set-time h 3 (Some n) (omega arith) e)
+  after-put PatternStart n e = (ap Ok h.counts, set-time h 4 (Some n) (omega arith) e)
+  after-put StartClocktime n e = (ap Ok h.counts, set-time h 5 (Some n) (omega arith) e)
   after-put Dropped n e = (ap Ok h.counts, rw (e, ← h.counts) h)
 
   module _ (fs : List Name) (r : Result TimeLine Reason) (a : TimesAs (times_of fs) r) where

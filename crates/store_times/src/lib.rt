@@ -13,7 +13,7 @@ ghost use Rattle.store_times.specs.Lines.{TimesAs, time_from, place_of, time_put
 
 use leaf_clock::TimeError;
 use leaf_decimals::NumberError;
-use leaf_fields::{Span};
+use leaf_fields::Span;
 use scope::{Counts, Reason, TimeOption};
 
 // ---- what a line says

@@ -1,11 +1,11 @@
 -- What is read from the words and numbers of a node, link, rule or clause is the record. Assumes nothing.
+use Rattle.std.specs.Prelude.{None, Option, Some}
 use Prim.Native.Nat.{ℕ, ◌+◌, ◌*◌, ◌≤◌, ◌<◌}
 use native.Mathlib.Omega.{arith}
 use native.Mathlib.Nat.{add-zero}
 use mathlib.Core.Path.{◌≡◌, refl, sym, ap, ◌∙◌}
 use mathlib.Core.Logic.{inl, inr}
 use mathlib.Core.List.{List}
-use mathlib.Core.Option.{Option, none, some}
 use lib.ListN.{length, get_or, take, replicate, get_or-eq_default}
 use lib.Seq.{get_or-take}
 use lib.Ieee.{Float, nan}
@@ -53,20 +53,20 @@ module _ (id : Name) where
   Back k p = node_by (words_in (node_words (with k p))) (numbers_in (node_numbers (with k p))) ≡ node_back (with k p)
 
   reservoir-back : (r : Reservoir) (n : Option Name) (o : Option ℕ) (p : Option Place) → Back (reservoir_of r n o) p
-  reservoir-back r none o none = rw (found_back o)
-  reservoir-back r none o (some q) = rw (found_back o)
-  reservoir-back r (some n) o none = rw (found_back o)
-  reservoir-back r (some n) o (some q) = rw (found_back o)
+  reservoir-back r None o None = rw (found_back o)
+  reservoir-back r None o (Some q) = rw (found_back o)
+  reservoir-back r (Some n) o None = rw (found_back o)
+  reservoir-back r (Some n) o (Some q) = rw (found_back o)
 
   tank-back : (t : Tank) (n : Option Name) (p : Option Place) → Back (tank_of t n) p
-  tank-back t none none = rw (flag-back t.overflow)
-  tank-back t none (some q) = rw (flag-back t.overflow)
-  tank-back t (some n) none = rw (flag-back t.overflow)
-  tank-back t (some n) (some q) = rw (flag-back t.overflow)
+  tank-back t None None = rw (flag-back t.overflow)
+  tank-back t None (Some q) = rw (flag-back t.overflow)
+  tank-back t (Some n) None = rw (flag-back t.overflow)
+  tank-back t (Some n) (Some q) = rw (flag-back t.overflow)
 
   kind-back : (k : NodeKind) (p : Option Place) → Back k p
-  kind-back (junction j) none = rw (flag-back j.disabled)
-  kind-back (junction j) (some q) = rw (flag-back j.disabled)
+  kind-back (junction j) None = rw (flag-back j.disabled)
+  kind-back (junction j) (Some q) = rw (flag-back j.disabled)
   kind-back (reservoir r) p = reservoir-back r r.pattern r.index p
   kind-back (tank t) p = tank-back t t.curve p
 
@@ -85,12 +85,12 @@ module _ (l : Link) where
   LinkBack k = link_by (words_in (link_words (linked k))) (numbers_in (link_numbers (linked k))) ≡ link_back (linked k)
 
   pump-back : (p : Pump) (n : Option Name) → LinkBack (pump_of p n)
-  pump-back p none = refl
-  pump-back p (some n) = refl
+  pump-back p None = refl
+  pump-back p (Some n) = refl
 
   valve-back : (v : Valve) (n : Option Name) → LinkBack (valve_of v n)
-  valve-back v none = rw (type-back v.type)
-  valve-back v (some n) = rw (type-back v.type)
+  valve-back v None = rw (type-back v.type)
+  valve-back v (Some n) = rw (type-back v.type)
 
   link-back : (k : LinkKind) → LinkBack k
   link-back (pipe p) = rw (pipe-status-back p.status)
@@ -100,13 +100,13 @@ module _ (l : Link) where
 -- ---- rules and clauses
 rule-back : (r : Rule) (o : Option ℕ) → rule_by (words_in (rule_words (record { id = r.id; priority = o; first = r.first; count = r.count })))
     ≡ rule_back (record { id = r.id; priority = o; first = r.first; count = r.count })
-rule-back r none = refl
-rule-back r (some n) = refl
+rule-back r None = refl
+rule-back r (Some n) = refl
 
 condition-back : (c : Condition) (n : Option Name) → let d : Clause = condition (record { operator = c.operator; target = c.target; name = n; comparison = c.comparison; value = c.value }) in
     clause_by (words_in (clause_words d)) (numbers_in (clause_numbers d) 0) ≡ clause_back d
-condition-back c none = rw (operator-back c.operator, target-back c.target, comparison-back c.comparison, value-back c.value)
-condition-back c (some n) = rw (operator-back c.operator, target-back c.target, comparison-back c.comparison, value-back c.value)
+condition-back c None = rw (operator-back c.operator, target-back c.target, comparison-back c.comparison, value-back c.value)
+condition-back c (Some n) = rw (operator-back c.operator, target-back c.target, comparison-back c.comparison, value-back c.value)
 
 clause-back : (c : Clause) → clause_by (words_in (clause_words c)) (numbers_in (clause_numbers c) 0) ≡ clause_back c
 clause-back (condition c) = condition-back c c.name

@@ -1,9 +1,9 @@
 -- What is read from the words and numbers of a series or a time is the record. Assumes nothing.
+use Rattle.std.specs.Prelude.{None, Option, Some}
 use Prim.Native.Nat.{ℕ, ◌+◌, ◌*◌, ◌<◌}
 use native.Mathlib.Omega.{arith}
 use mathlib.Core.Path.{◌≡◌, refl, ◌∙◌}
 use mathlib.Core.List.{List}
-use mathlib.Core.Option.{Option, none, some}
 use lib.ListN.{get_or, take, replicate}
 use lib.Ieee.{Float, nan}
 use Rattle.leaf_fields.specs.Fields.{Name}
@@ -32,8 +32,8 @@ no-id = refl
 -- with a pattern and without one
 demand-back : (d : Demand) (n : Option Name) → let e : Demand = record { node = d.node; own = d.own; base = d.base; pattern = n; index = d.index } in
     demand_by (words_in (demand_words e)) e.base ≡ demand_back e
-demand-back d none = rw (flag-back d.own, found_back d.index)
-demand-back d (some n) = rw (flag-back d.own, found_back d.index)
+demand-back d None = rw (flag-back d.own, found_back d.index)
+demand-back d (Some n) = rw (flag-back d.own, found_back d.index)
 
 -- ---- record i of the tables
 module _ {m : Network} {w : List ℕ} {f : List Float} (g : Stands m w f) (i : ℕ) where
@@ -79,10 +79,10 @@ module _ {m : Network} {w : List ℕ} {f : List Float} (g : Stands m w f) (i : �
       rw (a demand_node (omega arith), a demand_own (omega arith), a demand_name (omega arith), a (demand_name + name_length) (omega arith), a demand_index (omega arith), b)
       (demand-back (get_or m.demands i no_demand) (get_or m.demands i no_demand).pattern)
 
-  pub time-is : i < room_times → amount_from (get_or w (times_at + i * times_width + time_set) 0) (get_or w (times_at + i * times_width + time_seconds) 0) ≡ amount_of (get_or m.times i none)
+  pub time-is : i < room_times → amount_from (get_or w (times_at + i * times_width + time_set) 0) (get_or w (times_at + i * times_width + time_seconds) 0) ≡ amount_of (get_or m.times i None)
   time-is h =
       rw (
-        word w (times_at + i * times_width + time_set) (omega arith) ∙ time-word g.words i time_set none h (omega arith),
-        word w (times_at + i * times_width + time_seconds) (omega arith) ∙ time-word g.words i time_seconds none h (omega arith),
+        word w (times_at + i * times_width + time_set) (omega arith) ∙ time-word g.words i time_set None h (omega arith),
+        word w (times_at + i * times_width + time_seconds) (omega arith) ∙ time-word g.words i time_seconds None h (omega arith),
       )
-      (amount-back (get_or m.times i none))
+      (amount-back (get_or m.times i None))

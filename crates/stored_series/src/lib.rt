@@ -10,7 +10,7 @@ ghost use Rattle.stored_records.specs.Back.{Stands};
 ghost use Rattle.stored_series.specs.Back.{curve_back, pattern_back, point_back, multiplier_back, demand_back};
 ghost use Rattle.scope.specs.Layout.{record_words, room_numbers, room_times};
 
-use leaf_fields::{Span};
+use leaf_fields::Span;
 use stored_words::Amount;
 
 // ---- what the records are

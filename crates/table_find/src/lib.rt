@@ -13,7 +13,7 @@ ghost use Rattle.table_find.specs.Finding.{base_of, width_of, StartsAt};
 ghost use Rattle.table_rows.specs.Holding.{Words, Row, Rows, SomeRow, SomeRows, OtherNames, NotInSlot, FirstInSlot, is_junction};
 
 use leaf_fields::Span;
-use scope::{Kind};
+use scope::Kind;
 
 // The first of `count` rows that has the slot at `at`; where none has it, past them all.
 pub fn first_in_slot(words: &[u64], at: usize, count: usize) -> usize

@@ -1,10 +1,10 @@
 -- Tables of zeros hold the network of no records; and how long the tables are. Assumes nothing.
+use Rattle.std.specs.Prelude.{None}
 use Prim.Native.Nat.{ℕ, ◌+◌}
 use native.Mathlib.Omega.{arith}
 use native.Mathlib.Nat.{sub-zero}
 use mathlib.Core.Path.{◌≡◌, refl, sym, ap, ◌∙◌}
 use mathlib.Core.List.{List, [], ◌∷◌, map}
-use mathlib.Core.Option.{none}
 use lib.ListN.{length, replicate, length-append, replicate-append-replicate}
 use lib.Ieee.{Float}
 use Rattle.scope.specs.Records.{Network, zero_f, no_network, counts_of}
@@ -52,7 +52,7 @@ module _ {A : Type 0} (z : A) where
   all-zeros (b ∷ bs) [] h = absurd h
   all-zeros (b ∷ bs) (n ∷ ns) h = rw (h.0, all-zeros bs ns h.1) (replicate-append-replicate n (sum ns) z)
 
-times_none : region count_words 0 times_long (replicate 6 none) ≡ replicate times_long 0
+times_none : region count_words 0 times_long (replicate 6 None) ≡ replicate times_long 0
 unfolding region flat
 times_none = refl
 

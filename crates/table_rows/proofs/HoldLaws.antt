@@ -1,12 +1,11 @@
 -- What the two tables hold after a record more, or one changed. `n` is the count of the records before, as the code has it. Assumes nothing.
-use Rattle.std.specs.Prelude.{None, Some}
+use Rattle.std.specs.Prelude.{None, Some, Option}
 use Prim.Native.Nat.{ℕ, zero, suc, ◌+◌, ◌-◌, ◌*◌, ◌≤◌, ◌<◌}
 use native.Mathlib.Omega.{arith}
 use native.Mathlib.Nat.{mul-one}
 use mathlib.Core.Bool.{true}
 use mathlib.Core.Path.{◌≡◌, refl, sym, ap, ◌∙◌}
 use mathlib.Core.List.{List, [], ◌∷◌, ◌++◌, map}
-use mathlib.Core.Option.{Option, none}
 use lib.ListN.{length, set, get_or, replicate, length-append, length-map, length-set}
 use lib.Ieee.{Float}
 use Rattle.leaf_fields.specs.Fields.{Name, name_in, Fits, part}
@@ -264,7 +263,7 @@ module _ {text : List ℕ} {m : Network} {w : List ℕ} (h : Words text m w) whe
   other-time-words : {w' : List ℕ} (i : ℕ) (x : Option ℕ) → i < 6 → w' ≡ splice w (times_at + i * times_width) (count_words x) → Words text (with_times (set m.times i x) m) w'
   unfolding word_blocks
   other-time-words i x hi e = record {
-    exact = change-record (time-words-lie h.known) h.exact i none x (omega (arith, h.known.times)) e;
+    exact = change-record (time-words-lie h.known) h.exact i None x (omega (arith, h.known.times)) e;
     known = known-times h.known (set m.times i x) (length-set m.times i x ∙ h.known.times);
   }
 

@@ -1,9 +1,9 @@
 -- What stands in the words and the numbers of a record, and the rows of names. `x0` is any record: what stands past the end of its list. Assumes nothing.
+use Rattle.std.specs.Prelude.{Option}
 use Prim.Native.Nat.{ℕ, ◌+◌, ◌*◌, ◌≤◌, ◌<◌}
 use native.Mathlib.Omega.{arith}
 use mathlib.Core.Path.{◌≡◌, refl, sym, ap, ◌∙◌}
 use mathlib.Core.List.{List, [], ◌∷◌, ◌++◌, map}
-use mathlib.Core.Option.{Option}
 use lib.ListN.{length, get_or, length-map, get_or-map}
 use lib.Dec.{eqb}
 use lib.Ieee.{Float}

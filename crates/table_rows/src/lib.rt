@@ -11,7 +11,7 @@ ghost use Rattle.scope.specs.Layout.{patterns_at, pattern_slots_at, id_width, re
 ghost use Rattle.table_rows.specs.Table.{splice};
 ghost use Rattle.table_rows.specs.Holding.{opt_in, Below};
 
-use leaf_fields::{Span};
+use leaf_fields::Span;
 use scope::{Counts, Reason};
 
 // ---- the layout (docs/LAYOUT.md): a place is the place before it plus what stands there. Nothing else says so but crates/scope/specs/Layout.antt, and

@@ -1,8 +1,8 @@
 // What the programs write: words, counts and numbers, and names as they stand in the text.
 #![tactic(auto)]
 
-use leaf_fields::{Span};
-use scope::{LinkStatus};
+use leaf_fields::Span;
+use scope::LinkStatus;
 use std::io;
 use std::io::Write;
 

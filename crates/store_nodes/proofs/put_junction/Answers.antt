@@ -1,7 +1,7 @@
 -- `store_nodes::put_junction` meets its contract. Assumes nothing.
+use Rattle.std.specs.Prelude.{None}
 use mathlib.Core.Path.{ap, ◌∙◌}
 use mathlib.Core.List.{List, [], ◌∷◌}
-use mathlib.Core.Option.{none}
 use Prim.Native.Nat.{ℕ, ◌+◌, ◌*◌}
 use lib.Ieee.{Float}
 use lib.Ieee as Ieee
@@ -23,7 +23,7 @@ returns c =
       c.put_demand.ensures
           ∙ ap (λ (l : List ℕ). demand_added l a.d own)
           (c.put_node.ensures (name_in a.text.now a.j.id) c.requires.4
-          ∙ ap (λ (z : ℕ). marked (splice a.words.now (nodes_at + a.n * nodes_width) (new_words (name_in a.text.now a.j.id) 1 none z))
+          ∙ ap (λ (z : ℕ). marked (splice a.words.now (nodes_at + a.n * nodes_width) (new_words (name_in a.text.now a.j.id) 1 None z))
           (node_slots_at + slot_of (key_of (name_in a.text.now a.j.id).letters)) (a.n + 1)) c.flag_of-disabled.ensures),
       c.paste_numbers-2.ensures ∙ ap (λ (l : List Float). splice l (demand_numbers_at + a.d) (a.j.demand ∷ [])) c.paste_numbers.ensures,
     )
