@@ -19,20 +19,14 @@ use Rattle.leaf_fields.specs.Fields.{Name, part, name_in, fields_at, rest, lette
 use Rattle.leaf_fields.proofs.FieldLaws.{length_part, skipped, word_over, next-nothing, next_word}
 use Rattle.scope.specs.declared.Reason.{Reason}
 use Rattle.scope.specs.declared.Reason.TheVariants as reason
-use Rattle.scope.specs.Values.{Read, bad, Took, took, refused, as_number, as_swallowed, number_from, number_or, swallowed_from, optional_from}
-use Rattle.parse_fields.specs.Taking.{took_number, number_took, reason_in, Numbered, opt_in, MayFit}
+use Rattle.scope.specs.Values.{took, refused, number_reason, as_number, as_swallowed, number_from, number_or, swallowed_from, optional_from}
+use Rattle.parse_fields.specs.Taking.{Numbered, opt_in, MayFit}
+use Rattle.std.specs.Prelude.{IsErr, IsErrAnd}
+use Rattle.std.proofs.lemmas.Result.{err_from_is_err_and}
 
--- what was taken, and why nothing was, once it is known which answer it was
-pub told-number : (l : List ℕ) {t u : Result (Float × ℕ) Reason} {o : Took Float} → took_number l t ≡ o → t ≡ u → o ≡ took_number l u
-told-number l h e = sym h ∙ ap (took_number l) e
-
-pub told-why : {A : Type 0} {t : Result (Float × ℕ) Reason} {r why : Reason} → r ≡ reason_in t → t ≡ Err why → ◌≡◌ {A = Read A} (bad why) (bad r)
-told-why h e = ap bad (sym (h ∙ ap reason_in e))
-
-pub took-as : (l : List ℕ) (n : Result Float NumberError) (next : ℕ) → took_number l (number_took n next) ≡ as_number n (fields_at l next)
-took-as l (Ok x) next = refl
-took-as l (Err Malformed) next = refl
-took-as l (Err Beyond) next = refl
+-- what `?` hands on where a number cannot be taken
+pub handed-on : {A : Type 0} {r : Result A Reason} {why : Reason} → IsErr r × IsErrAnd r (λ x. x ≡ why) → r ≡ Err why
+handed-on {A} {r} h = let (e, is, q) = err_from_is_err_and r h.1 in is ∙ ap Err q
 
 -- neither a value nor malformed
 pub beyond : (d : Float) (n : Result Float NumberError) (fs : List Name) → ((x : Float) → n ≡ Ok x → ⊥) → (n ≡ Err Malformed → ⊥) → refused reason.BeyondReach ≡ as_swallowed d n fs
@@ -80,18 +74,22 @@ module _ (l : List ℕ) (at start : ℕ) (es : start ≡ start_at l at) where
     handed = et ∙ sym (ap (letters_or other) (skipped l at start 0 es))
 
     -- the others stand from the part's end on
-    pub took-part : start < length l → took_number l (number_took n (start + length text)) ≡ number_or other (fields_at l at)
+    pub took-part : start < length l → as_number n (fields_at l (start + length text)) ≡ number_or other (fields_at l at)
     took-part h =
         let end : ℕ = start + word_len (drop start l) in
         let (k, fit) = (next_word l at start end es h (word_len (drop start l)) refl refl).taken (record { at = start; end = end }) refl in
         let p : text ≡ part start end l = handed ∙ ap (letters_or other) k in
         let z : start + length text ≡ end = omega (arith, ap length p, length_part start end l fit.inside) in
-        rw (z, k) (took-as l n end ∙ ap (λ (x : Result Float NumberError). as_number x (fields_at l end)) (en ∙ ap number_of p))
+        rw (z, k) (ap (λ (x : Result Float NumberError). as_number x (fields_at l end)) (en ∙ ap number_of p))
 
-    pub took-other : length l ≤ start → took_number l (number_took n at) ≡ number_or other (fields_at l at)
+    pub took-other : length l ≤ start → as_number n (fields_at l at) ≡ number_or other (fields_at l at)
     took-other h =
         let k : fields_at l at ≡ [] = (next-nothing l at start 0 es h).nothing refl in
-        took-as l n at ∙ ap₂ as_number (en ∙ ap number_of handed) refl ∙ rw k
+        ap₂ as_number (en ∙ ap number_of handed) refl ∙ rw k
+
+    -- refused whether the field was there or not
+    pub took-refused : (e : NumberError) → n ≡ Err e → refused (number_reason e) ≡ number_or other (fields_at l at)
+    took-refused e q = rw (← handed) (rw (sym en ∙ q))
 
 -- a plain number that is all of a text
 pub plain-whole : (s : List ℕ) (n : Result Float NumberError) (len : ℕ) (p : Option (Result Float NumberError × ℕ)) → Begins s p → p ≡ Some (n, len) → len ≡ length s → n ≡ number_of s
@@ -102,8 +100,8 @@ module _ (l : List ℕ) (at : ℕ) (r : Option (Result Float NumberError × ℕ)
     is : Numbered l at (Some (n, end))
     is = subst (Numbered l at) e h
 
-    pub took-next : took_number l (number_took n end) ≡ number_from (fields_at l at)
-    took-next = let (f, k, q) = is in rw k (took-as l n end ∙ ap (λ (x : Result Float NumberError). as_number x (fields_at l end)) q)
+    pub took-next : as_number n (fields_at l end) ≡ number_from (fields_at l at)
+    took-next = let (f, k, q) = is in rw k (ap (λ (x : Result Float NumberError). as_number x (fields_at l end)) q)
 
     pub swallowed-next : (d : Float) → as_swallowed d n (fields_at l end) ≡ swallowed_from d (fields_at l at)
     swallowed-next d = let (f, k, q) = is in rw k (ap (λ (x : Result Float NumberError). as_swallowed d x (fields_at l end)) q)

@@ -6,30 +6,18 @@ ghost use Rattle.std.specs.Prelude.{◌≡◌};
 ghost use Rattle.leaf_decimals.specs.Numbers.{number_of};
 ghost use Rattle.leaf_fields.specs.Fields.{fields_at};
 ghost use Rattle.scope.specs.Values.{number_from, number_or, swallowed_from, flag_from};
-ghost use Rattle.parse_fields.specs.Taking.{took_number, took_flag, number_took, reason_in, Numbered};
+ghost use Rattle.parse_fields.specs.Taking.{took_in, Numbered};
 
 use leaf_decimals::NumberError;
 use scope::Reason;
 
-pub fn as_number(n: Result<f64, NumberError>, next: usize) -> Result<(f64, usize), Reason>
-    ensures { result ≡ number_took n next }
-{
-    match n {
-        Ok(x) => Ok((x, next)),
-        Err(NumberError::Malformed) => Err(Reason::Malformed),
-        Err(NumberError::Beyond) => Err(Reason::BeyondReach),
-    }
-}
-
+// What number the next field is, and a place from which on the others stand; None where no field is left.
 fn read_next(l: &[u8], at: usize) -> Option<(Result<f64, NumberError>, usize)>
     ensures { Numbered l.now at result }
 {
-    let f = leaf_fields::next_field(l, at);
-    let Some(s) = f else {
-        return None;
-    };
-    Some((leaf_decimals::read_number(leaf_fields::letters_of(l, s)),
-        s.end))
+    let s = leaf_fields::next_field(l, at)?;
+    let n = leaf_decimals::read_number(leaf_fields::letters_of(l, s));
+    Some((n, s.end))
 }
 
 // Most numbers are plain, and read while they are scanned.
@@ -38,8 +26,7 @@ pub fn next_number(l: &[u8], at: usize) -> Option<(Result<f64, NumberError>, usi
 {
     let start = leaf_fields::field_start(l, at);
     if start < l.len() {
-        let p = leaf_decimals::plain_number(&l[start..]);
-        let Some((n, len)) = p else {
+        let Some((n, len)) = leaf_decimals::plain_number(&l[start..]) else {
             return read_next(l, start);
         };
         let end = start + len;
@@ -52,51 +39,45 @@ pub fn next_number(l: &[u8], at: usize) -> Option<(Result<f64, NumberError>, usi
     None
 }
 
-// A number that must be there.
+// A number that must be there, and a place from which on the other fields stand.
 pub fn take_number(l: &[u8], at: usize) -> Result<(f64, usize), Reason>
-    ensures { took_number l.now result ≡ number_from (fields_at l.now at) }
+    ensures { took_in l.now result ≡ number_from (fields_at l.now at) }
 {
-    let f = next_number(l, at);
-    let Some((n, end)) = f else {
-        return Err(Reason::Missing);
-    };
-    as_number(n, end)
+    let (n, end) = next_number(l, at).ok_or(Reason::Missing)?;
+    let x = n?;
+    Ok((x, end))
 }
 
 // What number a text is that is one field. Most are plain here too.
 fn whole_number(s: &[u8]) -> Result<f64, NumberError>
     ensures { result ≡ number_of s.now }
 {
-    let p = leaf_decimals::plain_number(s);
-    let Some((n, len)) = p else {
-        return leaf_decimals::read_number(s);
-    };
-    if len == s.len() {
-        return n;
+    if let Some((n, len)) = leaf_decimals::plain_number(s) {
+        if len == s.len() {
+            return n;
+        }
     }
     leaf_decimals::read_number(s)
 }
 
 // A number that is read from the other text where it is missing. The field ends where the part of the line does that was handed out, so it is not scanned again.
 pub fn take_number_or<'a>(l: &'a [u8], at: usize, other: &'a [u8]) -> Result<(f64, usize), Reason>
-    ensures { took_number l.now result ≡ number_or other.now (fields_at l.now at) }
+    ensures { took_in l.now result ≡ number_or other.now (fields_at l.now at) }
 {
     let start = leaf_fields::field_start(l, at);
     let text = leaf_fields::field_or(l, start, other);
-    let n = whole_number(text);
+    let x = whole_number(text)?;
     if start < l.len() {
-        let end = start + text.len();
-        return as_number(n, end);
+        return Ok((x, start + text.len()));
     }
-    as_number(n, at)
+    Ok((x, at))
 }
 
 // A number that is `other` where it is missing or malformed; one beyond reach is refused even here.
 pub fn take_swallowed(l: &[u8], at: usize, other: f64) -> Result<(f64, usize), Reason>
-    ensures { took_number l.now result ≡ swallowed_from other (fields_at l.now at) }
+    ensures { took_in l.now result ≡ swallowed_from other (fields_at l.now at) }
 {
-    let f = next_number(l, at);
-    let Some((n, end)) = f else {
+    let Some((n, end)) = next_number(l, at) else {
         return Ok((other, at));
     };
     let Ok(x) = n else {
@@ -110,10 +91,9 @@ pub fn take_swallowed(l: &[u8], at: usize, other: f64) -> Result<(f64, usize), R
 
 // Exactly true or false, false where it is missing.
 pub fn take_flag(l: &[u8], at: usize) -> Result<(bool, usize), Reason>
-    ensures { took_flag l.now result ≡ flag_from (fields_at l.now at) }
+    ensures { took_in l.now result ≡ flag_from (fields_at l.now at) }
 {
-    let f = leaf_fields::next_field(l, at);
-    let Some(s) = f else {
+    let Some(s) = leaf_fields::next_field(l, at) else {
         return Ok((false, at));
     };
     let word = leaf_fields::letters_of(l, s);
@@ -124,14 +104,4 @@ pub fn take_flag(l: &[u8], at: usize) -> Result<(bool, usize), Reason>
         return Ok((false, s.end));
     }
     Err(Reason::Malformed)
-}
-
-// Why nothing was taken.
-pub fn reason_of(t: Result<(f64, usize), Reason>) -> Reason
-    ensures { result ≡ reason_in t }
-{
-    match t {
-        Ok((_, _)) => Reason::Missing,
-        Err(why) => why,
-    }
 }

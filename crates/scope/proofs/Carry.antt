@@ -78,8 +78,7 @@ optional (f ∷ fs) = tooks
 
 pub as-number : (n : Result Float NumberError) (fs : List Name) → TookLike itself (as_number n fs) (as_number n (map forget fs))
 as-number (Ok x) fs = tooks
-as-number (Err number.Malformed) fs = refuseds
-as-number (Err number.Beyond) fs = refuseds
+as-number (Err e) fs = refuseds
 
 pub as-swallowed : (d : Float) (n : Result Float NumberError) (fs : List Name) → TookLike itself (as_swallowed d n fs) (as_swallowed d n (map forget fs))
 as-swallowed d (Ok x) fs = tooks

@@ -10,7 +10,7 @@ use Rattle.scope_lines.proofs.Alike.{erases-alike}
 use Rattle.scope.specs.declared.Section.{Section}
 use Rattle.scope.specs.declared.Section.TheVariants.{Junctions, Reservoirs, Tanks, Pipes, Pumps, Valves, Curves, Patterns, Demands, Emitters, Coordinates, Times, Rules, Passed}
 use Rattle.scope.specs.Records.{Network}
-use Rattle.scope.specs.Values.{Read, good}
+use Rattle.scope.specs.Values.{Read}
 use Rattle.scope.specs.Rules.{group_step}
 use Rattle.scope.specs.Lines.{section_fields, rule_fields, verdict, step_of, inp}
 use Rattle.scope.specs.Bare.{forget, bare, section_letters, rule_letters, bare_inp}

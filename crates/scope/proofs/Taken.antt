@@ -1,6 +1,6 @@
 -- The rule of a group that a survey takes stands in its network: what comes later adds rules and clauses and changes none. Assumes nothing.
 use Prim.{Unit, tt}
-use Prim.Native.Nat.{ℕ, suc, ◌+◌, ◌≤◌, ◌<◌}
+use Prim.Native.Nat.{ℕ, suc, ◌≤◌, ◌<◌}
 use native.Mathlib.Omega.{arith}
 use mathlib.Core.Path.{◌≡◌, refl, ap, sym, ◌∙◌, subst}
 use mathlib.Core.Bool.{Bool, true, false}

@@ -127,8 +127,7 @@ module _ (text : List ℕ) where
 
   as-number : (n : Result Float NumberError) {fs : List Name} → All fs → Fresh Any (as_number n fs)
   as-number (Ok x) s = fresh tt s
-  as-number (Err number.Malformed) s = stale
-  as-number (Err number.Beyond) s = stale
+  as-number (Err e) s = stale
 
   as-swallowed : (d : Float) (n : Result Float NumberError) {fs : List Name} → All fs → Fresh Any (as_swallowed d n fs)
   as-swallowed d (Ok x) s = fresh tt s

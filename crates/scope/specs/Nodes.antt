@@ -1,5 +1,5 @@
 -- Document 01, "Records by section": junctions, reservoirs and tanks; emitters and coordinates. Assumes nothing.
-use Rattle.std.specs.Prelude.{ℕ, ◌+◌, Bool, true, false, cond, ◌&&◌, List, [], ◌∷◌, ◌++◌, length, set, get_or, ltb, Float, None, Option, Some}
+use Rattle.std.specs.Prelude.{ℕ, Bool, true, false, cond, ◌&&◌, List, [], ◌∷◌, ◌++◌, length, set, get_or, ltb, Float, None, Option, Some}
 use Rattle.leaf_fields.specs.Fields.{Name, rest}
 use Rattle.leaf_letters.specs.Words.{same, spelled}
 use Rattle.scope.specs.declared.Reason.TheVariants.{Used, NotFound, WrongKind, NoRoom}

@@ -46,10 +46,13 @@ optional_from [] = took None []
 optional_from (f ∷ fs) = took (Some f) fs
 
 -- ---- numbers
+abbrev pub number_reason : NumberError → Reason
+number_reason number.Malformed = Malformed
+number_reason number.Beyond = BeyondReach
+
 abbrev pub as_number : Result Float NumberError → List Name → Took Float
 as_number (Ok x) fs = took x fs
-as_number (Err number.Malformed) fs = refused Malformed
-as_number (Err number.Beyond) fs = refused BeyondReach
+as_number (Err e) fs = refused (number_reason e)
 
 -- a number that must be there
 abbrev pub number_from : List Name → Took Float
@@ -98,11 +101,14 @@ abbrev pub count_from : List Name → Read ℕ
 count_from [] = bad Missing
 count_from (f ∷ fs) = as_count (count_of f.letters)
 
+abbrev pub time_reason : TimeError → Reason
+time_reason time.Malformed = Malformed
+time_reason time.Beyond = BeyondReach
+time_reason time.UnknownUnit = UnknownWord
+
 abbrev pub as_time : Result ℕ TimeError → Read ℕ
 as_time (Ok n) = good n
-as_time (Err time.Malformed) = bad Malformed
-as_time (Err time.Beyond) = bad BeyondReach
-as_time (Err time.UnknownUnit) = bad UnknownWord
+as_time (Err e) = bad (time_reason e)
 
 -- a time, with its unit where one follows
 abbrev pub time_at : Name → List Name → Read ℕ

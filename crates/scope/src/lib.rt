@@ -1,6 +1,11 @@
 // The vocabulary of document 01, declared once. What each word means is said in specs/, heading by heading of the paper.
 #![tactic(auto)]
 
+ghost use Rattle.std.specs.Prelude.{◌≡◌};
+ghost use Rattle.scope.specs.Values.{number_reason, time_reason};
+
+use leaf_clock::TimeError;
+use leaf_decimals::NumberError;
 use leaf_fields::Span;
 
 // "Sections read and sections passed over": the thirteen that are read, and whatever is passed over.
@@ -40,6 +45,30 @@ pub enum Reason {
     BeyondReach,
     NoRoom,
     SmallTable,
+}
+
+// What `?` makes of a number, and of a time, that cannot be taken.
+impl From<NumberError> for Reason {
+    ghost from_gives = { λ e r. r ≡ number_reason e };
+
+    fn from(e: NumberError) -> Reason {
+        match e {
+            NumberError::Malformed => Reason::Malformed,
+            NumberError::Beyond => Reason::BeyondReach,
+        }
+    }
+}
+
+impl From<TimeError> for Reason {
+    ghost from_gives = { λ e r. r ≡ time_reason e };
+
+    fn from(e: TimeError) -> Reason {
+        match e {
+            TimeError::Malformed => Reason::Malformed,
+            TimeError::Beyond => Reason::BeyondReach,
+            TimeError::UnknownUnit => Reason::UnknownWord,
+        }
+    }
 }
 
 // The records that are looked up by their names.

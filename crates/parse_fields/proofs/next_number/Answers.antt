@@ -10,19 +10,19 @@ returns-in_default c =
 
 pub overflow_add-end : goal.overflow_add-end
 overflow_add-end c =
-    omega (arith, plain_fits c.args.l.now c.args.at _ c.field_start-start.ensures c.if-start-l.true _ _ _ c.plain_number-p.ensures c.in-Some.is)
+    omega (arith, plain_fits c.args.l.now c.args.at _ c.field_start-start.ensures c.if-start-l.true _ _ _ c.plain_number.ensures c.in-Some.is)
 
 pub returns-then-end-l : goal.returns-then-end-l
 returns-then-end-l c =
     let a = c.args in
     numbered-over a.l.now a.at _ c.field_start-start.ensures c.if-start-l.true _ _ _
-    c.plain_number-p.ensures c.in-Some.is c.if-end-l.true
+    c.plain_number.ensures c.in-Some.is c.if-end-l.true
 
 pub returns-then-start-l : goal.returns-then-start-l
 returns-then-start-l c =
     let a = c.args in
     numbered-plain a.l.now a.at _ c.field_start-start.ensures c.if-start-l.true _ _ _
-    c.plain_number-p.ensures c.in-Some.is
+    c.plain_number.ensures c.in-Some.is
 
 pub returns : goal.returns
 returns c =
