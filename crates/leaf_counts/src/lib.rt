@@ -42,9 +42,5 @@ pub fn read_count(s: &[u8]) -> Option<u64>
     let Class::Sign = k else {
         return read_whole(s);
     };
-    if b == b'+' {
-        read_whole(&s[1..])
-    } else {
-        None
-    }
+    if b == b'+' { read_whole(&s[1..]) } else { None }
 }

@@ -1,14 +1,14 @@
 // A name looked up among the records of its kind; and of which kind a record is.
 #![tactic(auto)]
 
-ghost use Rattle.std.specs.Prelude.{◌≡◌, List, ℕ, ◌+◌, ◌≤◌, ◌<◌, length, get_or};
+ghost use Rattle.std.specs.Prelude.{◌≡◌, List, ℕ, ◌+◌, ◌*◌, ◌≤◌, ◌<◌, length, get_or};
 ghost use Rattle.leaf_fields.specs.Fields.{Name, part};
 ghost use Rattle.leaf_letters.specs.Words.{same};
 ghost use Rattle.scope.specs.Records.{Network, lookup, node_ids, no_node, counts_of, records_of, ids_of, no_link};
 ghost use Rattle.scope.specs.Rules.{is_pipe, is_pump, is_valve};
 ghost use Rattle.scope.specs.Tables.{key_of};
 ghost use Rattle.scope.specs.Sections.{room_nodes, room_links};
-ghost use Rattle.scope.specs.Layout.{record_words};
+ghost use Rattle.scope.specs.Layout.{record_words, links_at, links_width, link_kind};
 ghost use Rattle.table_find.specs.Finding.{base_of, width_of, StartsAt};
 ghost use Rattle.table_rows.specs.Holding.{Words, Row, Rows, SomeRow, SomeRows, OtherNames, NotInSlot, FirstInSlot, is_junction};
 
@@ -65,13 +65,10 @@ fn walk_rows(
     requires { SomeRows text.now words.now base stride count × (base < 65536) × (key ≡ key_of name.now) × (from ≤ count) × OtherNames text.now words.now base stride name.now from }
     ensures { (ns : List Name) → count ≡ length ns → Rows text.now words.now base stride ns → result ≡ lookup ns name.now }
 {
-    let mut i = from;
-    while i < count {
-        let row = base + i * stride;
-        if row_is(text, words, row, key, name) {
+    for i in from..count {
+        if row_is(text, words, base + i * stride, key, name) {
             return Some(i);
         }
-        i += 1;
     }
     None
 }
@@ -116,7 +113,14 @@ fn start_of(words: &[u64], kind: Kind, key: u64, count: usize) -> usize
 }
 
 // The record of the kind, of which there are `count`, that has the name; the name has the key.
-pub fn find(text: &[u8], words: &[u64], kind: Kind, count: usize, key: u64, name: &[u8]) -> Option<usize>
+pub fn find(
+    text: &[u8],
+    words: &[u64],
+    kind: Kind,
+    count: usize,
+    key: u64,
+    name: &[u8],
+) -> Option<usize>
     requires { ((m : Network) × Words text.now m words.now × (count ≡ records_of kind (counts_of m))) × (key ≡ key_of name.now) }
     ensures { (m : Network) → Words text.now m words.now → count ≡ records_of kind (counts_of m) → result ≡ lookup (ids_of kind m) name.now }
 {
@@ -134,7 +138,13 @@ pub fn find(text: &[u8], words: &[u64], kind: Kind, count: usize, key: u64, name
 }
 
 // The same of a name whose key is not made yet, wherever its letters stand.
-pub fn find_named(text: &[u8], words: &[u64], kind: Kind, count: usize, name: &[u8]) -> Option<usize>
+pub fn find_named(
+    text: &[u8],
+    words: &[u64],
+    kind: Kind,
+    count: usize,
+    name: &[u8],
+) -> Option<usize>
     requires { (m : Network) × Words text.now m words.now × (count ≡ records_of kind (counts_of m)) }
     ensures { (m : Network) → Words text.now m words.now → count ≡ records_of kind (counts_of m) → result ≡ lookup (ids_of kind m) name.now }
 {
@@ -169,26 +179,31 @@ pub fn is_junction(words: &[u64], i: usize) -> bool
         == table_codes::JUNCTION
 }
 
+// The number of a link's kind.
+fn link_kind(words: &[u64], i: usize) -> u64
+    requires { (i < room_links) × (length words.now ≡ record_words) }
+    ensures { result ≡ get_or words.now (links_at + i * links_width + link_kind) 0 }
+{
+    words[table_rows::LINKS_AT + i * table_rows::LINKS_WIDTH + table_rows::LINK_KIND]
+}
+
 pub fn is_pipe(words: &[u64], i: usize) -> bool
     requires { (i < room_links) × (length words.now ≡ record_words) }
     ensures { (text : List ℕ) (m : Network) → Words text m words.now → i < length m.links → result ≡ is_pipe (get_or m.links i no_link).kind }
 {
-    words[table_rows::LINKS_AT + i * table_rows::LINKS_WIDTH + table_rows::LINK_KIND]
-        == table_codes::PIPE
+    link_kind(words, i) == table_codes::PIPE
 }
 
 pub fn is_pump(words: &[u64], i: usize) -> bool
     requires { (i < room_links) × (length words.now ≡ record_words) }
     ensures { (text : List ℕ) (m : Network) → Words text m words.now → i < length m.links → result ≡ is_pump (get_or m.links i no_link).kind }
 {
-    words[table_rows::LINKS_AT + i * table_rows::LINKS_WIDTH + table_rows::LINK_KIND]
-        == table_codes::PUMP
+    link_kind(words, i) == table_codes::PUMP
 }
 
 pub fn is_valve(words: &[u64], i: usize) -> bool
     requires { (i < room_links) × (length words.now ≡ record_words) }
     ensures { (text : List ℕ) (m : Network) → Words text m words.now → i < length m.links → result ≡ is_valve (get_or m.links i no_link).kind }
 {
-    words[table_rows::LINKS_AT + i * table_rows::LINKS_WIDTH + table_rows::LINK_KIND]
-        == table_codes::VALVE
+    link_kind(words, i) == table_codes::VALVE
 }

@@ -276,46 +276,12 @@ pub const NUMBERS_ROOM: usize = CLAUSE_NUMBERS_AT + CLAUSES_MOST * CLAUSE_NUMBER
 
 // ---- a record pasted, and a table cleared
 
-pub fn paste_words(words: &mut [u64], at: usize, rec: &[u64])
-    requires { at + length rec.now ≤ length words.old }
-    ensures { words.new ≡ splice words.old at rec.now }
+// The record stands in the table from `at` on; the rest of the table stays.
+pub fn paste<T: Copy>(table: &mut [T], at: usize, rec: &[T])
+    requires { at + length rec.now ≤ length table.old }
+    ensures { table.new ≡ splice table.old at rec.now }
 {
-    let mut i = 0;
-    while i < rec.len() {
-        words[at + i] = rec[i];
-        i += 1;
-    }
-}
-
-pub fn paste_numbers(numbers: &mut [f64], at: usize, rec: &[f64])
-    requires { at + length rec.now ≤ length numbers.old }
-    ensures { numbers.new ≡ splice numbers.old at rec.now }
-{
-    let mut i = 0;
-    while i < rec.len() {
-        numbers[at + i] = rec[i];
-        i += 1;
-    }
-}
-
-pub fn clear_words(words: &mut [u64])
-    ensures { words.new ≡ replicate (length words.old) 0 }
-{
-    let mut i = 0;
-    while i < words.len() {
-        words[i] = 0;
-        i += 1;
-    }
-}
-
-pub fn clear_numbers(numbers: &mut [f64])
-    ensures { numbers.new ≡ replicate (length numbers.old) zero_f }
-{
-    let mut i = 0;
-    while i < numbers.len() {
-        numbers[i] = 0.0;
-        i += 1;
-    }
+    table[at..at + rec.len()].copy_from_slice(rec);
 }
 
 // ---- slots: where a walk over the rows of a table may start
@@ -361,7 +327,7 @@ pub fn name_words(text: &[u8], f: Option<Span>) -> [u64; NAME_WIDTH]
 pub fn flag_of(b: bool) -> u64
     ensures { result ≡ flag b }
 {
-    if b { 1 } else { 0 }
+    u64::from(b)
 }
 
 // None is 0 and a place is itself plus one.
@@ -384,7 +350,7 @@ pub fn put_id(text: &[u8], id: Span, n: usize, base: usize, slots: usize, words:
         (slots + id_slot (name_in text.now id)) (n + 1) }
 {
     let name = id_words(text, id);
-    paste_words(words, base + n * ID_WIDTH, &name);
+    paste(words, base + n * ID_WIDTH, &name);
     let slot = slot_of(name[ID_KEY]);
     mark(words, slots + slot, n);
 }

@@ -1,7 +1,7 @@
 -- `leaf_clock::read_time` meets its contract. Assumes nothing.
 use Rattle.std.specs.Prelude.{Err}
 use Rattle.std.proofs.lemmas.Result.{err_from_is_err_and}
-use Rattle.std.proofs.Common.{sym, refl, ap, ◌∙◌, arith}
+use Rattle.std.proofs.Common.{sym, ap, ◌∙◌, arith}
 use Rattle.leaf_clock.specs.declared.Unit.{Unit}
 use Rattle.leaf_clock.specs.Times.{in_unit}
 use Rattle.leaf_clock.proofs.Parts.{start-length}

@@ -14,5 +14,5 @@ returns c =
     let a = c.args in
     let id = c.id_words-name.ensures in
     mark-alike (a.n + 1) c.mark.ensures
-    (c.paste_words.ensures ∙ ap (λ (l : List ℕ). splice a.words.now (a.base + a.n * id_width) l) id)
+    (c.paste.ensures ∙ ap (λ (l : List ℕ). splice a.words.now (a.base + a.n * id_width) l) id)
     (ap (λ (k : ℕ). a.slots + k) (c.slot_of-slot.ensures ∙ ap (λ (l : List ℕ). slot_of (get_or l 2 0)) id))
