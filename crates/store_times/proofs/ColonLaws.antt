@@ -1,22 +1,21 @@
--- Whether a text has a colon, one byte further. Assumes nothing.
-use Prim.Native.Nat.{ℕ, ◌+◌, ◌≤◌, ◌<◌}
+-- Whether a text has a colon: whether one of its bytes is one. Assumes nothing.
+use Prim.Native.Nat.{ℕ, suc}
+use Prim.Native.Nat.compare
 use native.Mathlib.Omega.{arith}
-use native.Mathlib.Numerals.{add-one}
-use borrow.Author.Tests.{lt-ltb, le-ltb}
-use mathlib.Core.Path.{◌≡◌, sym}
-use mathlib.Core.Bool.{true, false}
-use mathlib.Core.List.{List}
-use lib.ListN.{length, drop, get_or}
+use borrow.Author.Tests.{lt-ltb}
+use mathlib.Core.Path.{◌≡◌, refl, sym}
+use mathlib.Core.Bool.{Bool, true, false, cond, ◌||◌}
+use mathlib.Core.List.{List, [], ◌∷◌}
+use lib.ListN.{length}
+use lib.Dec.{eqb, ltb}
+use Rattle.std.specs.List.{list_any}
 use Rattle.leaf_clock.specs.Times.{colon_at, has_colon}
-use Rattle.leaf_clock.proofs.Colon.{colon-on, colon-off, colon-end}
 
--- no colon stands before i
-module _ (s : List ℕ) (i : ℕ) (e : i + colon_at (drop i s) ≡ colon_at s) where
-  pub colon-here : i < length s → get_or s i 0 ≡ 58 → true ≡ has_colon s
-  colon-here h b = sym (lt-ltb (colon_at s) (length s) (omega (arith, h, e, colon-on s i h b)))
-
-  pub colon-later : i < length s → (get_or s i 0 ≡ 58 → ⊥) → (i + 1) + colon_at (drop (i + 1) s) ≡ colon_at s
-  colon-later h b = rw add-one (omega (arith, e, colon-off s i h b))
-
-  pub colon-nowhere : length s ≤ i → false ≡ has_colon s
-  colon-nowhere h = sym (le-ltb (colon_at s) (length s) (omega (arith, h, e, colon-end s i h)))
+pub any_colon : (s : List ℕ) → list_any (λ b. eqb b 58) s ≡ has_colon s
+unfolding colon_at
+any_colon [] = refl
+any_colon (b ∷ t) = go (eqb b 58) (any_colon t)
+  where
+    go : (q : Bool) → list_any (λ b. eqb b 58) t ≡ has_colon t → (q || list_any (λ b. eqb b 58) t) ≡ ltb (cond q 0 (suc (colon_at t))) (suc (length t))
+    go true h = sym (lt-ltb 0 (suc (length t)) (omega arith))
+    go false h = rw (compare.suc-suc (suc (colon_at t)) (length t)) h

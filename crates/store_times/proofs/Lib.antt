@@ -1,4 +1,3 @@
 -- What the proofs of this crate use.
 pub mod ColonLaws
-pub mod LineLaws
 pub mod StoreLaws

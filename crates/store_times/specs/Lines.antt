@@ -1,9 +1,8 @@
 -- What a line of TIMES says, as the code has it; and where each time that is kept stands. Assumes nothing.
 use Rattle.store_times.specs.declared.TimeLine.{TimeLine}
 use Rattle.scope.specs.declared.Reason.{Reason}
-use Rattle.leaf_clock.specs.declared.TimeError.{TimeError}
 use Rattle.std.specs.Prelude.{ℕ, ◌+◌, ◌*◌, ◌≡◌, List, Err, None, Ok, Option, Result, Some}
-use Rattle.scope.specs.Values.{Read, good, bad, on_read, on_found, as_time}
+use Rattle.scope.specs.Values.{Read, good, bad, on_found}
 use Rattle.scope.specs.Times.{TimeFields}
 use Rattle.scope.specs.Tables.{count_words}
 use Rattle.scope.specs.declared.TimeOption.{TimeOption}
@@ -18,10 +17,6 @@ times_in (Err why) = bad why
 
 abbrev pub TimesAs : Read TimeFields → Result TimeLine Reason → Type 0
 TimesAs o r = o ≡ times_in r
-
--- a time that was read, as the value of an option
-abbrev pub time_from : TimeOption → Result ℕ TimeError → Read TimeFields
-time_from o t = on_read (as_time t) (λ n. good (record { option = o; seconds = n }))
 
 -- "Six options are kept ..": the place of each, in the order of scope's set_time
 abbrev pub place_of : TimeOption → Option ℕ

@@ -9,9 +9,8 @@ ghost use Rattle.leaf_clock.specs.Times.{has_colon};
 ghost use Rattle.scope.specs.Records.{Network};
 ghost use Rattle.scope.specs.Times.{option_of, option_of_two, joins, seconds_from, after_option, times_of, times_step};
 ghost use Rattle.table_rows.specs.Holding.{Holds, Sound, After};
-ghost use Rattle.store_times.specs.Lines.{TimesAs, time_from, place_of, time_put};
+ghost use Rattle.store_times.specs.Lines.{TimesAs, place_of, time_put};
 
-use leaf_clock::TimeError;
 use leaf_decimals::NumberError;
 use leaf_fields::Span;
 use scope::{Counts, Reason, TimeOption};
@@ -27,6 +26,7 @@ pub struct TimeLine {
 
 // ---- reading it
 
+#[tactic(auto, unfolding(scope::specs::Times::option_of))]
 fn option_of(a: &[u8]) -> TimeOption
     ensures { result ≡ option_of a.now }
 {
@@ -40,12 +40,10 @@ fn option_of(a: &[u8]) -> TimeOption
 fn spell_two(a: &[u8], b: &[u8], first: &[u8], second: &[u8]) -> bool
     ensures { result ≡ (spelled a.now first.now && spelled b.now second.now) }
 {
-    if leaf_letters::spells(a, first) {
-        return leaf_letters::spells(b, second);
-    }
-    false
+    leaf_letters::spells(a, first) && leaf_letters::spells(b, second)
 }
 
+#[tactic(auto, unfolding(scope::specs::Times::option_of_two))]
 fn option_of_two(a: &[u8], b: &[u8]) -> TimeOption
     ensures { result ≡ option_of_two a.now b.now }
 {
@@ -70,14 +68,7 @@ fn option_of_two(a: &[u8], b: &[u8]) -> TimeOption
 fn has_colon(s: &[u8]) -> bool
     ensures { result ≡ has_colon s.now }
 {
-    let mut i = 0;
-    while i < s.len() {
-        if s[i] == b':' {
-            return true;
-        }
-        i += 1;
-    }
-    false
+    s.contains(&b':')
 }
 
 // Whether the second field joins the option: it is no number and has no colon.
@@ -85,22 +76,9 @@ fn joins(l: &[u8], f: Span) -> bool
     ensures { result ≡ joins (name_in l.now f) }
 {
     let s = leaf_fields::letters_of(l, f);
-    let n = leaf_decimals::read_number(s);
-    match n {
-        Ok(_) => false,
+    match leaf_decimals::read_number(s) {
         Err(NumberError::Malformed) => !has_colon(s),
-        Err(NumberError::Beyond) => false,
-    }
-}
-
-fn time_from(option: TimeOption, t: Result<u64, TimeError>) -> Result<TimeLine, Reason>
-    ensures { TimesAs (time_from option t) result }
-{
-    match t {
-        Ok(seconds) => Ok(TimeLine { option, seconds }),
-        Err(TimeError::Malformed) => Err(Reason::Malformed),
-        Err(TimeError::Beyond) => Err(Reason::BeyondReach),
-        Err(TimeError::UnknownUnit) => Err(Reason::UnknownWord),
+        _ => false,
     }
 }
 
@@ -108,42 +86,31 @@ fn time_from(option: TimeOption, t: Result<u64, TimeError>) -> Result<TimeLine, 
 fn read_seconds(l: &[u8], at: usize, option: TimeOption) -> Result<TimeLine, Reason>
     ensures { TimesAs (seconds_from option (fields_at l.now at)) result }
 {
-    let f = leaf_fields::next_field(l, at);
-    let Some(value) = f else {
-        return Err(Reason::Missing);
-    };
+    let value = leaf_fields::next_field(l, at).ok_or(Reason::Missing)?;
     let unit = leaf_fields::field_or(l, value.end, b"");
-    time_from(
-        option,
-        leaf_clock::read_time(leaf_fields::letters_of(l, value), unit),
-    )
+    let seconds = leaf_clock::read_time(leaf_fields::letters_of(l, value), unit)?;
+    Ok(TimeLine { option, seconds })
 }
 
 // What follows the first word of the option.
 fn read_option(l: &[u8], word: Span) -> Result<TimeLine, Reason>
     ensures { TimesAs (after_option (name_in l.now word) (fields_at l.now word.end)) result }
 {
-    let f = leaf_fields::next_field(l, word.end);
-    let Some(second) = f else {
-        return Err(Reason::Missing);
-    };
+    let second = leaf_fields::next_field(l, word.end).ok_or(Reason::Missing)?;
     let a = leaf_fields::letters_of(l, word);
     if joins(l, second) {
         let option = option_of_two(a, leaf_fields::letters_of(l, second));
         return read_seconds(l, second.end, option);
     }
-    let option = option_of(a);
-    read_seconds(l, word.end, option)
+    read_seconds(l, word.end, option_of(a))
 }
 
 // An option of one word or two, its value, and the unit; STATISTIC sets nothing and needs no value.
+#[tactic(auto, unfolding(scope::specs::Times::times_of))]
 fn read_times(l: &[u8], at: usize) -> Result<TimeLine, Reason>
     ensures { TimesAs (times_of (fields_at l.now at)) result }
 {
-    let f = leaf_fields::next_field(l, at);
-    let Some(word) = f else {
-        return Err(Reason::Missing);
-    };
+    let word = leaf_fields::next_field(l, at).ok_or(Reason::Missing)?;
     if leaf_letters::spells(leaf_fields::letters_of(l, word), b"STATISTIC") {
         return Ok(TimeLine {
             option: TimeOption::Dropped,
@@ -174,15 +141,13 @@ fn put_time(words: &mut [u64], option: TimeOption, seconds: u64)
     requires { length words.old ≡ record_words }
     ensures { words.new ≡ time_put option seconds words.old }
 {
-    let place = place_of(option);
-    let Some(k) = place else {
-        return;
-    };
-    table_rows::paste_words(
-        words,
-        table_rows::TIMES_AT + k * table_rows::TIMES_WIDTH,
-        &[1, seconds],
-    );
+    if let Some(k) = place_of(option) {
+        table_rows::paste(
+            words,
+            table_rows::TIMES_AT + k * table_rows::TIMES_WIDTH,
+            &[1, seconds],
+        );
+    }
 }
 
 // The line of TIMES from `at` to `end`. It changes no number: each section's line has these parameters.
@@ -198,13 +163,7 @@ pub fn times_line(
     ensures { (m : Network) → Holds text.now m s words.old numbers.old
         → After text.now (times_step (fields_at (take end text.now) at) m) result words.old numbers.old words.new numbers.new }
 {
-    let read = read_times(&text[..end], at);
-    match read {
-        Ok(t) => {
-            let option = t.option;
-            put_time(words, option, t.seconds);
-            Ok(s)
-        }
-        Err(why) => Err(why),
-    }
+    let t = read_times(&text[..end], at)?;
+    put_time(words, t.option, t.seconds);
+    Ok(s)
 }
