@@ -38,7 +38,7 @@ pub fn read_names(l: &[u8], at: usize) -> Result<LinkNames, Reason>
     Ok(LinkNames { id, start, end })
 }
 
-// CV or CLOSED in any case, else open.
+// CV or CLOSED in any case, else open. A table of the two words would be longer.
 fn take_status(l: &[u8], at: usize) -> PipeStatus
     ensures { result ≡ status_in (fields_at l.now at) }
 {
