@@ -9,52 +9,57 @@ ghost use Rattle.stored_counts.specs.Room.{has_room, have_room};
 
 use scope::Counts;
 
-// How many records of each kind there are, from the end of the words that a reading was lent.
-pub fn counts_at(words: &[u64]) -> Counts
-    ensures { (m : Network) (rest : List ℕ) → drop record_words words.now ≡ tally_words (counts_of m) ++ rest → result ≡ counts_of m }
-{
-    if words.len() < table_rows::WORDS_ROOM {
-        return Counts {
-            nodes: 0,
-            links: 0,
-            curves: 0,
-            points: 0,
-            patterns: 0,
-            multipliers: 0,
-            demands: 0,
-            rules: 0,
-            clauses: 0,
-        };
-    }
-    Counts {
-        nodes: words[table_rows::COUNTS_AT + table_rows::COUNT_NODES] as usize,
-        links: words[table_rows::COUNTS_AT + table_rows::COUNT_LINKS] as usize,
-        curves: words[table_rows::COUNTS_AT + table_rows::COUNT_CURVES] as usize,
-        points: words[table_rows::COUNTS_AT + table_rows::COUNT_POINTS] as usize,
-        patterns: words[table_rows::COUNTS_AT + table_rows::COUNT_PATTERNS] as usize,
-        multipliers: words[table_rows::COUNTS_AT + table_rows::COUNT_MULTIPLIERS] as usize,
-        demands: words[table_rows::COUNTS_AT + table_rows::COUNT_DEMANDS] as usize,
-        rules: words[table_rows::COUNTS_AT + table_rows::COUNT_RULES] as usize,
-        clauses: words[table_rows::COUNTS_AT + table_rows::COUNT_CLAUSES] as usize,
-    }
+// What a reading stored: the text, and the words and the numbers that were lent for its records.
+#[derive(Clone, Copy)]
+pub struct Stored<'a> {
+    pub text: &'a [u8],
+    pub words: &'a [u64],
+    pub numbers: &'a [f64],
 }
 
-// The words are long enough for a network, and a region has room for a record i.
-pub fn has_room(words: &[u64], room: usize, i: usize) -> bool
-    ensures { result ≡ has_room (length words.now) room i }
-{
-    if table_rows::RECORD_WORDS <= words.len() {
-        return i < room;
+impl<'a> Stored<'a> {
+    // How many records of each kind there are, from the end of the words.
+    pub fn counts(self) -> Counts
+        ensures { (m : Network) (rest : List ℕ) → drop record_words self.entry.words.now ≡ tally_words (counts_of m) ++ rest → result ≡ counts_of m }
+    {
+        let words = self.words;
+        if words.len() < table_rows::WORDS_ROOM {
+            return Counts {
+                nodes: 0,
+                links: 0,
+                curves: 0,
+                points: 0,
+                patterns: 0,
+                multipliers: 0,
+                demands: 0,
+                rules: 0,
+                clauses: 0,
+            };
+        }
+        Counts {
+            nodes: words[table_rows::COUNTS_AT + table_rows::COUNT_NODES] as usize,
+            links: words[table_rows::COUNTS_AT + table_rows::COUNT_LINKS] as usize,
+            curves: words[table_rows::COUNTS_AT + table_rows::COUNT_CURVES] as usize,
+            points: words[table_rows::COUNTS_AT + table_rows::COUNT_POINTS] as usize,
+            patterns: words[table_rows::COUNTS_AT + table_rows::COUNT_PATTERNS] as usize,
+            multipliers: words[table_rows::COUNTS_AT + table_rows::COUNT_MULTIPLIERS] as usize,
+            demands: words[table_rows::COUNTS_AT + table_rows::COUNT_DEMANDS] as usize,
+            rules: words[table_rows::COUNTS_AT + table_rows::COUNT_RULES] as usize,
+            clauses: words[table_rows::COUNTS_AT + table_rows::COUNT_CLAUSES] as usize,
+        }
     }
-    false
-}
 
-// And the numbers are long enough.
-pub fn have_room(words: &[u64], numbers: &[f64], room: usize, i: usize) -> bool
-    ensures { result ≡ have_room (length words.now) (length numbers.now) room i }
-{
-    if table_rows::NUMBERS_ROOM <= numbers.len() {
-        return has_room(words, room, i);
+    // The words are long enough for a network, and a region has room for a record i.
+    pub fn has_room(self, room: usize, i: usize) -> bool
+        ensures { result ≡ has_room (length self.entry.words.now) room i }
+    {
+        table_rows::RECORD_WORDS <= self.words.len() && i < room
     }
-    false
+
+    // And the numbers are long enough.
+    pub fn have_room(self, room: usize, i: usize) -> bool
+        ensures { result ≡ have_room (length self.entry.words.now) (length self.entry.numbers.now) room i }
+    {
+        table_rows::NUMBERS_ROOM <= self.numbers.len() && self.has_room(room, i)
+    }
 }

@@ -5,6 +5,7 @@ use native.Mathlib.Omega.{arith}
 use native.Mathlib.Nat.{add-zero}
 use mathlib.Core.Path.{◌≡◌, refl, sym, ap, ◌∙◌}
 use mathlib.Core.Logic.{inl, inr}
+use mathlib.Core.Bool.{true}
 use mathlib.Core.List.{List}
 use lib.ListN.{length, get_or, take, replicate, get_or-eq_default}
 use lib.Seq.{get_or-take}
@@ -23,6 +24,8 @@ use Rattle.scope.specs.Layout.{nodes_at, links_at, rules_at, clauses_at, nodes_w
 use Rattle.scope.specs.Layout.{clause_numbers_at, node_numbers_width, link_numbers_width, record_words, room_numbers}
 use Rattle.table_codes.proofs.CodeLaws.{flag-back, pipe-status-back, type-back, target-back, comparison-back, operator-back, value-back}
 use Rattle.stored_words.proofs.WordLaws.{found_back}
+use Rattle.stored_counts.specs.Room.{has_room, have_room}
+use Rattle.stored_counts.proofs.RoomLaws.{room-is, rooms-are}
 use Rattle.stored_words.specs.Words.{span_from}
 use Rattle.stored_records.specs.Back.{Stands, clause_by, node_back, link_back, rule_back, clause_back}
 use Rattle.stored_records.proofs.Whole.{node_by, link_by, rule_by}
@@ -172,13 +175,11 @@ module _ {m : Network} {w : List ℕ} {f : List Float} (g : Stands m w f) (i : �
         a node_placed (omega arith),
         b node_elevation (omega arith),
         b junction_emitter (omega arith),
-        b node_x (omega arith),
-        b node_y (omega arith),
         get_or-eq_default m.nodes no_node past,
       )
 
-  pub node-is : i < room_nodes → NodeIs
-  node-is h = elim (le-or-lt (length m.nodes) i) [ inl past ↦ node-past h past | inr hi ↦ node-here h hi ]
+  pub node-is : have_room (length w) (length f) room_nodes i ≡ true → NodeIs
+  node-is e = let h = (rooms-are (length w) room_nodes i (length f) e).0 in elim (le-or-lt (length m.nodes) i) [ inl past ↦ node-past h past | inr hi ↦ node-here h hi ]
 
   abbrev LinkIs : Type 0
   LinkIs = link_by (λ j. get_or w (links_at + i * links_width + j) 0) (λ j. get_or f (link_numbers_at + i * link_numbers_width + j) nan) ≡ link_back (get_or m.links i no_link)
@@ -225,11 +226,12 @@ module _ {m : Network} {w : List ℕ} {f : List Float} (g : Stands m w f) (i : �
         get_or-eq_default m.links no_link past,
       )
 
-  pub link-is : i < room_links → LinkIs
-  link-is h = elim (le-or-lt (length m.links) i) [ inl past ↦ link-past h past | inr hi ↦ link_here h hi ]
+  pub link-is : have_room (length w) (length f) room_links i ≡ true → LinkIs
+  link-is e = let h = (rooms-are (length w) room_links i (length f) e).0 in elim (le-or-lt (length m.links) i) [ inl past ↦ link-past h past | inr hi ↦ link_here h hi ]
 
-  pub rule-is : i < room_rules → rule_by (λ j. get_or w (rules_at + i * rules_width + j) 0) ≡ rule_back (get_or m.rules i no_rule)
-  rule-is h =
+  pub rule-is : has_room (length w) room_rules i ≡ true → rule_by (λ j. get_or w (rules_at + i * rules_width + j) 0) ≡ rule_back (get_or m.rules i no_rule)
+  rule-is e =
+      let h = (room-is (length w) room_rules i e).0 in
       let a : (j : ℕ) → j < rules_width → get_or w (rules_at + i * rules_width + j) 0 ≡ words_in (rule_words (get_or m.rules i no_rule)) j =
       λ j hj. word w (rules_at + i * rules_width + j) (omega arith) ∙ any_word (rule-words-lie g.words.known) g.words.exact i j 0 no_rule no-rule (omega arith) hj in
       rw (a id_place (omega arith), a id_length (omega arith), a rule_first (omega arith), a rule_count (omega arith), a rule_priority_set (omega arith), a rule_priority (omega arith))
@@ -256,5 +258,5 @@ module _ {m : Network} {w : List ℕ} {f : List Float} (g : Stands m w f) (i : �
       ∙ one_place (take room_numbers f) clause_numbers_at i nan (past_word (clause-numbers-lie g.words.known) g.numbers.exact i 0 nan past (omega arith)) in
       rw (a clause_kind (omega arith), a action_else (omega arith), a action_link (omega arith), a clause_status (omega arith), a clause_name (omega arith), a (clause_name + name_length) (omega arith), b, get_or-eq_default m.clauses no_clause past)
 
-  pub clause-is : i < room_clauses → ClauseIs
-  clause-is h = elim (le-or-lt (length m.clauses) i) [ inl past ↦ clause-past h past | inr hi ↦ clause-here h hi ]
+  pub clause-is : have_room (length w) (length f) room_clauses i ≡ true → ClauseIs
+  clause-is e = let h = (rooms-are (length w) room_clauses i (length f) e).0 in elim (le-or-lt (length m.clauses) i) [ inl past ↦ clause-past h past | inr hi ↦ clause-here h hi ]

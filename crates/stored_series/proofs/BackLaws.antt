@@ -3,8 +3,9 @@ use Rattle.std.specs.Prelude.{None, Option, Some}
 use Prim.Native.Nat.{ℕ, ◌+◌, ◌*◌, ◌<◌}
 use native.Mathlib.Omega.{arith}
 use mathlib.Core.Path.{◌≡◌, refl, ◌∙◌}
+use mathlib.Core.Bool.{true}
 use mathlib.Core.List.{List}
-use lib.ListN.{get_or, take, replicate}
+use lib.ListN.{length, get_or, take, replicate}
 use lib.Ieee.{Float, nan}
 use Rattle.leaf_fields.specs.Fields.{Name}
 use Rattle.scope.specs.Records.{Network, Demand, no_name, no_demand, no_point, no_multiplier}
@@ -18,6 +19,8 @@ use Rattle.table_rows.proofs.ReadLaws.{one_place, time-word}
 use Rattle.stored_words.specs.Words.{amount_from, amount_of}
 use Rattle.table_codes.proofs.CodeLaws.{flag-back}
 use Rattle.stored_words.proofs.WordLaws.{found_back, amount-back}
+use Rattle.stored_counts.specs.Room.{has_room, have_room}
+use Rattle.stored_counts.proofs.RoomLaws.{room-is, rooms-are}
 use Rattle.stored_records.specs.Back.{Stands}
 use Rattle.stored_records.proofs.PastLaws.{any_word}
 use Rattle.stored_records.proofs.BackLaws.{words_in, numbers_in, word, number}
@@ -37,20 +40,23 @@ demand-back d (Some n) = rw (flag-back d.own, found_back d.index)
 
 -- ---- record i of the tables
 module _ {m : Network} {w : List ℕ} {f : List Float} (g : Stands m w f) (i : ℕ) where
-  pub curve-is : i < room_curves → curve_by (λ j. get_or w (curves_at + i * curves_width + j) 0) ≡ curve_back (get_or m.curves i no_name)
-  curve-is h =
+  pub curve-is : has_room (length w) room_curves i ≡ true → curve_by (λ j. get_or w (curves_at + i * curves_width + j) 0) ≡ curve_back (get_or m.curves i no_name)
+  curve-is e =
+      let h = (room-is (length w) room_curves i e).0 in
       let a : (j : ℕ) → j < curves_width → get_or w (curves_at + i * curves_width + j) 0 ≡ words_in (id_words (get_or m.curves i no_name)) j =
       λ j hj. word w (curves_at + i * curves_width + j) (omega arith) ∙ any_word (curve-words-lie g.words.known) g.words.exact i j 0 no_name no-id (omega arith) hj in
       rw (a id_place (omega arith), a id_length (omega arith))
 
-  pub pattern-is : i < room_patterns → pattern_by (λ j. get_or w (patterns_at + i * patterns_width + j) 0) ≡ pattern_back (get_or m.patterns i no_name)
-  pattern-is h =
+  pub pattern-is : has_room (length w) room_patterns i ≡ true → pattern_by (λ j. get_or w (patterns_at + i * patterns_width + j) 0) ≡ pattern_back (get_or m.patterns i no_name)
+  pattern-is e =
+      let h = (room-is (length w) room_patterns i e).0 in
       let a : (j : ℕ) → j < patterns_width → get_or w (patterns_at + i * patterns_width + j) 0 ≡ words_in (id_words (get_or m.patterns i no_name)) j =
       λ j hj. word w (patterns_at + i * patterns_width + j) (omega arith) ∙ any_word (pattern-words-lie g.words.known) g.words.exact i j 0 no_name no-id (omega arith) hj in
       rw (a id_place (omega arith), a id_length (omega arith))
 
-  pub point-is : i < room_points → point_by (get_or w (points_at + i) 0) (λ j. get_or f (point_numbers_at + i * point_numbers_width + j) nan) ≡ point_back (get_or m.points i no_point)
-  point-is h =
+  pub point-is : have_room (length w) (length f) room_points i ≡ true → point_by (get_or w (points_at + i) 0) (λ j. get_or f (point_numbers_at + i * point_numbers_width + j) nan) ≡ point_back (get_or m.points i no_point)
+  point-is e =
+      let h = (rooms-are (length w) room_points i (length f) e).0 in
       let a : get_or w (points_at + i) 0 ≡ (get_or m.points i no_point).curve =
       word w (points_at + i) (omega arith) ∙ one_place (take record_words w) points_at i 0
       (any_word (point-words-lie g.words.known) g.words.exact i 0 0 no_point refl (omega arith) (omega arith)) in
@@ -59,8 +65,9 @@ module _ {m : Network} {w : List ℕ} {f : List Float} (g : Stands m w f) (i : �
       λ j hj. number f (point_numbers_at + i * point_numbers_width + j) (omega arith) ∙ any_word (point-numbers-lie g.words.known) g.numbers.exact i j nan no_point refl (omega arith) hj in
       rw (a, b point_x (omega arith), b point_y (omega arith))
 
-  pub multiplier-is : i < room_multipliers → multiplier_by (get_or w (multipliers_at + i) 0) (get_or f (multiplier_numbers_at + i) nan) ≡ multiplier_back (get_or m.multipliers i no_multiplier)
-  multiplier-is h =
+  pub multiplier-is : have_room (length w) (length f) room_multipliers i ≡ true → multiplier_by (get_or w (multipliers_at + i) 0) (get_or f (multiplier_numbers_at + i) nan) ≡ multiplier_back (get_or m.multipliers i no_multiplier)
+  multiplier-is e =
+      let h = (rooms-are (length w) room_multipliers i (length f) e).0 in
       let a : get_or w (multipliers_at + i) 0 ≡ (get_or m.multipliers i no_multiplier).pattern =
       word w (multipliers_at + i) (omega arith)
       ∙ one_place (take record_words w) multipliers_at i 0 (any_word (multiplier-words-lie g.words.known) g.words.exact i 0 0 no_multiplier refl (omega arith) (omega arith)) in
@@ -69,8 +76,9 @@ module _ {m : Network} {w : List ℕ} {f : List Float} (g : Stands m w f) (i : �
       ∙ one_place (take room_numbers f) multiplier_numbers_at i nan (any_word (multiplier-numbers-lie g.words.known) g.numbers.exact i 0 nan no_multiplier refl (omega arith) (omega arith)) in
       rw (a, b)
 
-  pub demand-is : i < room_demands → demand_by (λ j. get_or w (demands_at + i * demands_width + j) 0) (get_or f (demand_numbers_at + i) nan) ≡ demand_back (get_or m.demands i no_demand)
-  demand-is h =
+  pub demand-is : have_room (length w) (length f) room_demands i ≡ true → demand_by (λ j. get_or w (demands_at + i * demands_width + j) 0) (get_or f (demand_numbers_at + i) nan) ≡ demand_back (get_or m.demands i no_demand)
+  demand-is e =
+      let h = (rooms-are (length w) room_demands i (length f) e).0 in
       let a : (j : ℕ) → j < demands_width → get_or w (demands_at + i * demands_width + j) 0 ≡ words_in (demand_words (get_or m.demands i no_demand)) j =
       λ j hj. word w (demands_at + i * demands_width + j) (omega arith) ∙ any_word (demand-words-lie g.words.known) g.words.exact i j 0 no_demand refl (omega arith) hj in
       let b : get_or f (demand_numbers_at + i) nan ≡ (get_or m.demands i no_demand).base =
@@ -79,8 +87,9 @@ module _ {m : Network} {w : List ℕ} {f : List Float} (g : Stands m w f) (i : �
       rw (a demand_node (omega arith), a demand_own (omega arith), a demand_name (omega arith), a (demand_name + name_length) (omega arith), a demand_index (omega arith), b)
       (demand-back (get_or m.demands i no_demand) (get_or m.demands i no_demand).pattern)
 
-  pub time-is : i < room_times → amount_from (get_or w (times_at + i * times_width + time_set) 0) (get_or w (times_at + i * times_width + time_seconds) 0) ≡ amount_of (get_or m.times i None)
-  time-is h =
+  pub time-is : has_room (length w) room_times i ≡ true → amount_from (get_or w (times_at + i * times_width + time_set) 0) (get_or w (times_at + i * times_width + time_seconds) 0) ≡ amount_of (get_or m.times i None)
+  time-is e =
+      let h = (room-is (length w) room_times i e).0 in
       rw (
         word w (times_at + i * times_width + time_set) (omega arith) ∙ time-word g.words i time_set None h (omega arith),
         word w (times_at + i * times_width + time_seconds) (omega arith) ∙ time-word g.words i time_seconds None h (omega arith),

@@ -1,17 +1,15 @@
 -- `stored_records::clause_at` meets its contract. Assumes nothing.
 use mathlib.Core.Path.{sym, ap, ◌∙◌}
-use lib.ListN.{length}
-use Rattle.table_rows.proofs.ClearLaws.{zero_number}
-use Rattle.stored_records.specs.Back.{clause_back}
 use Rattle.scope.specs.Records.{no_clause}
-use Rattle.stored_counts.proofs.RoomLaws.{rooms-are}
+use Rattle.table_rows.proofs.ClearLaws.{zero_number}
+use Rattle.stored_records.proofs.BackLaws.{clause-is}
+use Rattle.stored_records.specs.Back.{clause_back}
 use Rattle.stored_records.proofs.PastLaws.{past-both}
-use Rattle.scope.specs.Sections.{room_clauses}
 use Rattle.stored_records.proofs.clause_at.Goals as goal
 
-pub clause_row-requires : goal.clause_row-requires
-clause_row-requires c =
-    rooms-are (length c.args.words.now) room_clauses c.args.i (length c.args.numbers.now) (sym c.have_room.ensures ∙ c.if-have_room.true)
+pub returns-then-have_room : goal.returns-then-have_room
+returns-then-have_room c =
+    λ m g. c.clause_by.ensures ∙ clause-is g c.args.i (sym c.have_room.ensures ∙ c.if-have_room.true)
 
 pub returns : goal.returns
 returns c =

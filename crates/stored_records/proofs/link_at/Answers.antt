@@ -1,17 +1,17 @@
 -- `stored_records::link_at` meets its contract. Assumes nothing.
+use Prim.Native.Nat.{◌+◌, ◌*◌}
 use mathlib.Core.Path.{sym, ap, ◌∙◌}
-use lib.ListN.{length}
 use Rattle.scope.specs.Records.{no_link}
 use Rattle.table_rows.proofs.ClearLaws.{zero_number}
+use Rattle.scope.specs.Layout.{links_at, links_width}
+use Rattle.stored_records.proofs.BackLaws.{link-is, span-first}
 use Rattle.stored_records.specs.Back.{link_back}
-use Rattle.stored_counts.proofs.RoomLaws.{rooms-are}
 use Rattle.stored_records.proofs.PastLaws.{past-both}
-use Rattle.scope.specs.Sections.{room_links}
 use Rattle.stored_records.proofs.link_at.Goals as goal
 
-pub link_row-requires : goal.link_row-requires
-link_row-requires c =
-    rooms-are (length c.args.words.now) room_links c.args.i (length c.args.numbers.now) (sym c.have_room.ensures ∙ c.if-have_room.true)
+pub returns-then-have_room : goal.returns-then-have_room
+returns-then-have_room c =
+    λ m g. rw (c.span_at-id.ensures ∙ span-first c.args.stored.words.now (links_at + c.args.i * links_width), c.link_kind_at-kind.ensures) (link-is g c.args.i (sym c.have_room.ensures ∙ c.if-have_room.true))
 
 pub returns : goal.returns
 returns c =

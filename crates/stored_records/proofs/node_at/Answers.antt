@@ -1,17 +1,17 @@
--- `stored_records::node_at-law` meets its contract. Assumes nothing.
+-- `stored_records::node_at` meets its contract. Assumes nothing.
+use Prim.Native.Nat.{◌+◌, ◌*◌}
 use mathlib.Core.Path.{sym, ap, ◌∙◌}
-use lib.ListN.{length}
 use Rattle.scope.specs.Records.{no_node}
 use Rattle.table_rows.proofs.ClearLaws.{zero_number}
+use Rattle.scope.specs.Layout.{nodes_at, nodes_width}
+use Rattle.stored_records.proofs.BackLaws.{node-is, span-first}
 use Rattle.stored_records.specs.Back.{node_back}
-use Rattle.stored_counts.proofs.RoomLaws.{rooms-are}
 use Rattle.stored_records.proofs.PastLaws.{past-both}
-use Rattle.scope.specs.Sections.{room_nodes}
 use Rattle.stored_records.proofs.node_at.Goals as goal
 
-pub node_row-requires : goal.node_row-requires
-node_row-requires c =
-    rooms-are (length c.args.words.now) room_nodes c.args.i (length c.args.numbers.now) (sym c.have_room.ensures ∙ c.if-have_room.true)
+pub returns-then-have_room : goal.returns-then-have_room
+returns-then-have_room c =
+    λ m g. rw (c.span_at-id.ensures ∙ span-first c.args.stored.words.now (nodes_at + c.args.i * nodes_width), c.kind_at-kind.ensures, c.then_some-place.ensures) (node-is g c.args.i (sym c.have_room.ensures ∙ c.if-have_room.true))
 
 pub returns : goal.returns
 returns c =

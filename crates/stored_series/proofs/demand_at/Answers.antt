@@ -1,17 +1,19 @@
 -- `stored_series::demand_at` meets its contract. Assumes nothing.
-use mathlib.Core.Path.{sym, ap, ◌∙◌}
-use lib.ListN.{length}
+use Prim.Native.Nat.{◌+◌, ◌*◌}
+use Rattle.scope.specs.Layout.{name_length, demand_name, demands_at, demands_width}
+use native.Mathlib.Omega.{arith}
+use mathlib.Core.Path.{◌≡◌, sym, ap, ◌∙◌}
+use Rattle.stored_series.proofs.BackLaws.{demand-is}
 use Rattle.scope.specs.Records.{no_demand}
 use Rattle.table_rows.proofs.ClearLaws.{zero_number}
 use Rattle.stored_series.specs.Back.{demand_back}
-use Rattle.stored_counts.proofs.RoomLaws.{rooms-are}
 use Rattle.stored_records.proofs.PastLaws.{past-both}
-use Rattle.scope.specs.Sections.{room_demands}
 use Rattle.stored_series.proofs.demand_at.Goals as goal
 
-pub demand_row-requires : goal.demand_row-requires
-demand_row-requires c =
-    rooms-are (length c.args.words.now) room_demands c.args.i (length c.args.numbers.now) (sym c.have_room.ensures ∙ c.if-have_room.true)
+pub returns-then-have_room : goal.returns-then-have_room
+returns-then-have_room c =
+    let e : demands_at + c.args.i * demands_width + demand_name + name_length ≡ demands_at + c.args.i * demands_width + (demand_name + name_length) = omega arith in
+    λ m g. rw (c.field_at-pattern.ensures, e, c.found_from-index.ensures) (demand-is g c.args.i (sym c.have_room.ensures ∙ c.if-have_room.true))
 
 pub returns : goal.returns
 returns c =

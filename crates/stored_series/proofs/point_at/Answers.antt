@@ -1,17 +1,14 @@
 -- `stored_series::point_at` meets its contract. Assumes nothing.
+use Rattle.stored_series.proofs.BackLaws.{point-is}
 use mathlib.Core.Path.{sym, ap, ◌∙◌}
-use lib.ListN.{length}
 use Rattle.table_rows.proofs.ClearLaws.{zero_number}
 use Rattle.stored_series.specs.Back.{point_back}
 use Rattle.scope.specs.Records.{no_point}
-use Rattle.stored_counts.proofs.RoomLaws.{rooms-are}
 use Rattle.stored_records.proofs.PastLaws.{past-both}
-use Rattle.scope.specs.Sections.{room_points}
 use Rattle.stored_series.proofs.point_at.Goals as goal
 
-pub point_row-requires : goal.point_row-requires
-point_row-requires c =
-    rooms-are (length c.args.words.now) room_points c.args.i (length c.args.numbers.now) (sym c.have_room.ensures ∙ c.if-have_room.true)
+pub returns-then-have_room : goal.returns-then-have_room
+returns-then-have_room c = λ m g. point-is g c.args.i (sym c.have_room.ensures ∙ c.if-have_room.true)
 
 pub returns : goal.returns
 returns c =
