@@ -7,6 +7,7 @@ use native.Mathlib.Omega.{arith}
 use lib.ListN.{length}
 use lib.Dec.{eqb}
 use borrow.Author.Tests.{ne_eqb, lt-leb}
+use Rattle.std.proofs.Math.Bool.{and-false}
 use Rattle.std.specs.List.{list_all, zip}
 use Rattle.leaf_digits.specs.declared.Class.TheVariants.{Digit}
 use Rattle.leaf_digits.specs.Bytes.{is, lower}
@@ -15,16 +16,12 @@ use Rattle.leaf_decimals.specs.Numbers.{spells}
 use Rattle.leaf_digits.proofs.Classes.{digit-range}
 use Rattle.leaf_digits.proofs.Digits.{digits-no}
 
-and-false : (x y : Bool) → y ≡ false → x && y ≡ false
-and-false true y e = e
-and-false false y e = refl
-
 pub spells-length : (s w : List ℕ) → (length s ≡ length w → ⊥) → spells s w ≡ false
 unfolding spells
 spells-length [] [] n = absurd (n refl)
 spells-length [] (b ∷ t) n = refl
 spells-length (a ∷ s) [] n = refl
-spells-length (a ∷ s) (b ∷ t) n = and-false (eqb (lower a) b) (spells s t) (spells-length s t (λ e. n (ap suc e)))
+spells-length (a ∷ s) (b ∷ t) n = rw (spells-length s t (λ e. n (ap suc e))) (and-false (eqb (lower a) b))
 
 -- what a test of each pair answers, where the two are as long
 pub spells-all : (s w : List ℕ) → length s ≡ length w → list_all (λ p. eqb (lower p.0) p.1) (zip s w) ≡ spells s w

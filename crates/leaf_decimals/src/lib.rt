@@ -81,7 +81,7 @@ fn valued(minus: bool, w: u64, up: usize, down: usize) -> Result<f64, NumberErro
 
 // ---- the words inf, infinity and nan
 
-// Whether s is the word w, in any case of its letters.
+// Whether s is the word w, in any case of its letters: `leaf_letters::spells` is of words in capitals.
 fn is_word(s: &[u8], w: &[u8]) -> bool
     ensures { result ≡ spells s.now w.now }
 {

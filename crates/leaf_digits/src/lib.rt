@@ -118,7 +118,7 @@ pub struct Few {
     pub value: u64,
 }
 
-// The digits from `from` on, none of them past `to`: so few that no sum overflows.
+// The digits from `from` on, none of them past `to`: so few that no sum overflows, and no digit is tested against a cap as in `leading`.
 pub fn few_digits(s: &[u8], from: usize, to: usize, start: u64) -> Few
     requires { (from ≤ length s.now) × (to ≤ length s.now) × Room start from to }
     ensures { Scanned s.now from start result.end result.value × Room result.value result.end to }

@@ -1,5 +1,6 @@
 -- Texts that are compared byte by byte. Assumes nothing.
 use Prim.Native.Nat.{ℕ, suc}
+use Rattle.std.proofs.Math.Bool.{and-false}
 use Rattle.std.proofs.lemmas.Bool.{false≢true}
 use Rattle.std.proofs.lemmas.Bool.Decides.{same_from_decides}
 use Rattle.std.proofs.lemmas.Slice.Eq.{bytes_eq-Decides, compares_Decides}
@@ -7,7 +8,7 @@ use Rattle.std.specs.Cmp.Lexicographic.{pointwise}
 use Rattle.std.specs.List.{list_all, zip}
 use mathlib.Core.Path.{◌≡◌, refl, sym, ap, ◌∙◌}
 use mathlib.Core.Logic.{◌↔◌}
-use mathlib.Core.Bool.{Bool, true, false, ◌&&◌}
+use mathlib.Core.Bool.{true, false, ◌&&◌}
 use mathlib.Core.List.{List, [], ◌∷◌, map}
 use lib.ListN.{length}
 use lib.Dec.{eqb}
@@ -38,10 +39,6 @@ same-all f [] [] h = refl
 same-all f [] (y ∷ b) h = cc
 same-all f (x ∷ a) [] h = cc
 same-all f (x ∷ a) (y ∷ b) h = ap (λ t. eqb (f x) y && t) (same-all f a b (cc))
-
-and-false : (t : Bool) → (t && false) ≡ false
-and-false true = refl
-and-false false = refl
 
 pub same-long : (f : ℕ → ℕ) (a b : List ℕ) → (length a ≡ length b → ⊥) → same (map f a) b ≡ false
 unfolding same

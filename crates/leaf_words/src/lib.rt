@@ -63,7 +63,7 @@ fn find_near(text: &[u8], from: usize, a: u8, b: u8) -> usize
     from.max(text.len())
 }
 
-// The same, eight bytes at a time, and twice that in each turn.
+// The same, eight bytes at a time, and twice that in each turn: docs/SPEED.md says what that is worth, and an iterator over blocks of eight has one in each.
 pub fn find_either(text: &[u8], from: usize, a: u8, b: u8) -> usize
     ensures { result ≡ from + clear_len a b (drop from text.now) }
 {
