@@ -16,7 +16,8 @@ use Rattle.scope.specs.Records as records
 use Rattle.scope.specs.Values.{Read}
 use Rattle.scope.specs.Links.{LinkFields}
 use Rattle.parse_fields.specs.Taking.{MayFit}
-use Rattle.parse_pipes.specs.Lines.{NamesFit, NamesAs, pipe_in, pump_in, valve_in, kind_in, KindFits, line_in, LinkAs}
+use Rattle.parse_fields.proofs.Once.{read-once}
+use Rattle.parse_pipes.specs.Lines.{NamesFit, NamesAs, pipe_in, pump_in, valve_in, kind_in, KindFits, LinkAs}
 use Rattle.parse_pipes.specs.declared.LinkNames.{LinkNames}
 
 -- ---- the id and the two nodes
@@ -26,9 +27,9 @@ three l n m p q r = λ i. record { id = span-once l n.id m.id p i; start = span-
 
 pub names-once : (l : List ℕ) (fs : List Name) (r s : Result LinkNames Reason) → NamesAs l fs r → NamesAs l fs s → r ≡ s
 names-once l fs (Ok a) (Ok b) (e, n) (f, m) = ap Ok (three l n m (cc) (cc) (cc))
-names-once l fs (Ok a) (Err reason.Missing) (e, n) f = absurd (omega (arith, ap length e))
-names-once l fs (Err reason.Missing) (Ok b) e (f, m) = absurd (omega (arith, ap length f))
-names-once l fs (Err reason.Missing) (Err reason.Missing) e f = cc
+names-once l fs (Ok a) (Err why) (e, n) (is, f) = absurd (omega (arith, ap length e, f))
+names-once l fs (Err why) (Ok b) (is, e) (f, m) = absurd (omega (arith, ap length f, e))
+names-once l fs (Err why) (Err also) (is, e) (same, f) = cc
 
 -- ---- what kind a link is
 pub pump-same : (l : List ℕ) (p q : Pump) → MayFit l p.head → MayFit l q.head → pump_in l p ≡ pump_in l q → p ≡ q
@@ -57,12 +58,7 @@ kind-same l (kind.Valve p) (kind.Pump q) m n e = cc
 
 -- ---- a line of PIPES or VALVES
 pub link-once : (l : List ℕ) (o : Read LinkFields) (r s : Result LinkLine Reason) → LinkAs l o r → LinkAs l o s → r ≡ s
-link-once l o (Ok x) (Ok y) (e, n, k) (f, m, j) =
-    let h : line_in l x ≡ line_in l y = cc in
-    λ i. Ok (record {
-      names = three l n m (ap LinkFields.id h) (ap LinkFields.start h) (ap LinkFields.end h) i;
-      kind = kind-same l x.kind y.kind k j (ap LinkFields.kind h) i;
-    })
-link-once l o (Ok x) (Err why) (e, n, k) f = cc
-link-once l o (Err why) (Ok y) e (f, m, j) = cc
-link-once l o (Err why) (Err also) e f = cc
+link-once l = read-once (λ x y (n, k) (m, j) h. λ i. record {
+  names = three l n m (ap LinkFields.id h) (ap LinkFields.start h) (ap LinkFields.end h) i;
+  kind = kind-same l x.kind y.kind k j (ap LinkFields.kind h) i;
+})

@@ -1,5 +1,6 @@
 -- The code's answers as what document 01 says of a line of PIPES, PUMPS or VALVES; what the readers of pumps and of valves answer besides is in their crates. Assumes nothing.
 use Rattle.scope.specs.declared.Reason.{Reason}
+use Rattle.scope.specs.declared.Reason.TheVariants.{Missing}
 use Rattle.std.specs.Prelude.{ℕ, ◌<◌, ◌≡◌, List, ◌∷◌, length, Err, Ok, Result}
 use Rattle.leaf_fields.specs.Fields.{Name, fields_at, name_in, Fits}
 use Rattle.scope.specs.declared.Pipe.{Pipe}
@@ -8,9 +9,9 @@ use Rattle.scope.specs.declared.Valve.{Valve}
 use Rattle.scope.specs.declared.LinkKind.{LinkKind}
 use Rattle.scope.specs.declared.LinkKind.TheVariants as kind
 use Rattle.scope.specs.Records as records
-use Rattle.scope.specs.Values.{Read, good, bad}
+use Rattle.scope.specs.Values.{Read}
 use Rattle.scope.specs.Links as scope
-use Rattle.parse_fields.specs.Taking.{opt_in, MayFit}
+use Rattle.parse_fields.specs.Taking.{opt_in, MayFit, ReadAs}
 use Rattle.parse_pipes.specs.declared.LinkNames.{LinkNames}
 use Rattle.parse_pipes.specs.declared.LinkLine.{LinkLine}
 
@@ -23,7 +24,7 @@ pub record NamesFit (l : List ℕ) (n : LinkNames) : Type 0 where
 -- the first three of the fields; or there are fewer
 abbrev pub NamesAs : List ℕ → List Name → Result LinkNames Reason → Type 0
 NamesAs l fs (Ok n) = (fs ≡ name_in l n.id ∷ name_in l n.start ∷ name_in l n.end ∷ fields_at l n.end.end) × NamesFit l n
-NamesAs l fs (Err reason.Missing) = length fs < 3
+NamesAs l fs (Err why) = (why ≡ Missing) × (length fs < 3)
 
 -- ---- what kind a link is
 abbrev pub pipe_in : Pipe → records.Pipe
@@ -51,5 +52,4 @@ abbrev pub line_in : List ℕ → LinkLine → scope.LinkFields
 line_in l x = scope.link_fields (name_in l x.names.id) (name_in l x.names.start) (name_in l x.names.end) (kind_in l x.kind)
 
 abbrev pub LinkAs : List ℕ → Read scope.LinkFields → Result LinkLine Reason → Type 0
-LinkAs l o (Ok x) = (o ≡ good (line_in l x)) × NamesFit l x.names × KindFits l x.kind
-LinkAs l o (Err why) = o ≡ bad why
+LinkAs l = ReadAs (line_in l) (λ x. NamesFit l x.names × KindFits l x.kind)

@@ -32,18 +32,9 @@ pub struct LinkLine {
 pub fn read_names(l: &[u8], at: usize) -> Result<LinkNames, Reason>
     ensures { NamesAs l.now (fields_at l.now at) result }
 {
-    let f = leaf_fields::next_field(l, at);
-    let Some(id) = f else {
-        return Err(Reason::Missing);
-    };
-    let g = leaf_fields::next_field(l, id.end);
-    let Some(start) = g else {
-        return Err(Reason::Missing);
-    };
-    let h = leaf_fields::next_field(l, start.end);
-    let Some(end) = h else {
-        return Err(Reason::Missing);
-    };
+    let id = leaf_fields::next_field(l, at).ok_or(Reason::Missing)?;
+    let start = leaf_fields::next_field(l, id.end).ok_or(Reason::Missing)?;
+    let end = leaf_fields::next_field(l, start.end).ok_or(Reason::Missing)?;
     Ok(LinkNames { id, start, end })
 }
 
@@ -51,8 +42,7 @@ pub fn read_names(l: &[u8], at: usize) -> Result<LinkNames, Reason>
 fn take_status(l: &[u8], at: usize) -> PipeStatus
     ensures { result ≡ status_in (fields_at l.now at) }
 {
-    let f = leaf_fields::next_field(l, at);
-    let Some(s) = f else {
+    let Some(s) = leaf_fields::next_field(l, at) else {
         return PipeStatus::Open;
     };
     let word = leaf_fields::letters_of(l, s);
@@ -66,39 +56,24 @@ fn take_status(l: &[u8], at: usize) -> PipeStatus
 }
 
 // Id, two nodes, length, diameter, roughness, minor loss, status.
+#[tactic(auto, unfolding(scope::specs::Links::pipe_of))]
 pub fn read_pipe(l: &[u8], at: usize) -> Result<LinkLine, Reason>
     ensures { LinkAs l.now (pipe_of (fields_at l.now at)) result }
 {
-    let three = read_names(l, at);
-    let Ok(names) = three else {
-        return Err(Reason::Missing);
-    };
-    let first = parse_fields::take_number(l, names.end.end);
-    let Ok((long, at2)) = first else {
-        return Err(parse_fields::reason_of(first));
-    };
-    let second = parse_fields::take_number(l, at2);
-    let Ok((diameter, at3)) = second else {
-        return Err(parse_fields::reason_of(second));
-    };
-    let third = parse_fields::take_number(l, at3);
-    let Ok((roughness, at4)) = third else {
-        return Err(parse_fields::reason_of(third));
-    };
-    let fourth = parse_fields::take_swallowed(l, at4, 0.0);
-    let Ok((minor, at5)) = fourth else {
-        return Err(parse_fields::reason_of(fourth));
-    };
+    let names = read_names(l, at)?;
+    let (long, at2) = parse_fields::take_number(l, names.end.end)?;
+    let (diameter, at3) = parse_fields::take_number(l, at2)?;
+    let (roughness, at4) = parse_fields::take_number(l, at3)?;
+    let (minor, at5) = parse_fields::take_swallowed(l, at4, 0.0)?;
     let status = take_status(l, at5);
-    let pipe = Pipe {
-        long,
-        diameter,
-        roughness,
-        minor,
-        status,
-    };
     Ok(LinkLine {
         names,
-        kind: LinkKind::Pipe(pipe),
+        kind: LinkKind::Pipe(Pipe {
+            long,
+            diameter,
+            roughness,
+            minor,
+            status,
+        }),
     })
 }
