@@ -1,1 +1,2 @@
 -- What the proofs of this crate use.
+pub mod TypeLaws

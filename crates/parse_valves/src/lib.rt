@@ -18,31 +18,26 @@ struct Setting {
     curve: Option<Span>,
 }
 
+// The types by their words.
+static TYPES: [([u8; 3], ValveType); 7] = [
+    (*b"GPV", ValveType::Gpv),
+    (*b"TCV", ValveType::Tcv),
+    (*b"FCV", ValveType::Fcv),
+    (*b"PRV", ValveType::Prv),
+    (*b"PSV", ValveType::Psv),
+    (*b"PBV", ValveType::Pbv),
+    (*b"PCV", ValveType::Pcv),
+];
+
 // A valve's type, in any case.
 #[tactic(auto, unfolding(scope::specs::Links::type_of))]
 fn read_type(word: &[u8]) -> Option<ValveType>
     ensures { TypeAs (type_of word.now) result }
 {
-    if leaf_letters::spells(word, b"GPV") {
-        return Some(ValveType::Gpv);
-    }
-    if leaf_letters::spells(word, b"TCV") {
-        return Some(ValveType::Tcv);
-    }
-    if leaf_letters::spells(word, b"FCV") {
-        return Some(ValveType::Fcv);
-    }
-    if leaf_letters::spells(word, b"PRV") {
-        return Some(ValveType::Prv);
-    }
-    if leaf_letters::spells(word, b"PSV") {
-        return Some(ValveType::Psv);
-    }
-    if leaf_letters::spells(word, b"PBV") {
-        return Some(ValveType::Pbv);
-    }
-    if leaf_letters::spells(word, b"PCV") {
-        return Some(ValveType::Pcv);
+    for (name, kind) in &TYPES {
+        if leaf_letters::spells(word, name) {
+            return Some(*kind);
+        }
     }
     None
 }
