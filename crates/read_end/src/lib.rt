@@ -1,8 +1,7 @@
 // Works out the patterns' places, at the end of a text.
 #![tactic(auto)]
 
-ghost use Rattle.std.specs.Prelude.{◌≡◌, List, [], ◌∷◌, ◌<◌, ◌+◌, length, Float, slice_index};
-ghost use Rattle.std.proofs.Math.Option.{Option};
+ghost use Rattle.std.specs.Prelude.{◌≡◌, List, [], ◌∷◌, ◌<◌, ◌+◌, length, Float, slice_index, Option};
 ghost use Rattle.leaf_fields.specs.Fields.{Name};
 ghost use Rattle.scope.specs.Records.{Network};
 ghost use Rattle.scope.specs.Series.{index_of, resolved};

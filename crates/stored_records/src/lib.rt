@@ -9,7 +9,7 @@ ghost use Rattle.stored_records.specs.Back.{Stands, words_from, numbers_from, ju
 ghost use Rattle.stored_records.specs.Back.{condition_by, action_by, clause_by, node_back, link_back, rule_back, clause_back};
 ghost use Rattle.scope.specs.Layout.{name_length, nodes_width, links_width, clauses_width, node_numbers_width, link_numbers_width, record_words, room_numbers};
 
-use leaf_fields::{Span};
+use leaf_fields::Span;
 use scope::{Action, Condition, LinkKind, Pipe, PipeStatus, Pump, Tank, Value, Valve};
 use stored_counts::Stored;
 

@@ -1,14 +1,13 @@
 // Curves, patterns, demands and times read back by value from the two tables that a reading filled.
 #![tactic(auto)]
 
-ghost use Rattle.std.specs.Prelude.{◌≡◌, List, Float, get_or};
-ghost use Rattle.std.proofs.Math.Option.{none};
+ghost use Rattle.std.specs.Prelude.{◌≡◌, List, Float, get_or, None};
 ghost use Rattle.scope.specs.Records.{Network, no_name, no_demand, no_point, no_multiplier};
 ghost use Rattle.stored_words.specs.Words.{amount_of};
 ghost use Rattle.stored_records.specs.Back.{Stands};
 ghost use Rattle.stored_series.specs.Back.{curve_back, pattern_back, point_back, multiplier_back, demand_back};
 
-use leaf_fields::{Span};
+use leaf_fields::Span;
 use stored_counts::Stored;
 
 // ---- what the records are
@@ -146,7 +145,7 @@ pub fn demand_at(stored: Stored, i: usize) -> Demand
 
 // Time number i: duration, hydraulic timestep, pattern timestep, report timestep, pattern start, start clocktime.
 pub fn time_at(stored: Stored, i: usize) -> Option<u64>
-    ensures { (m : Network) (f : List Float) → Stands m stored.entry.words.now f → result ≡ amount_of (get_or m.times i none) }
+    ensures { (m : Network) (f : List Float) → Stands m stored.entry.words.now f → result ≡ amount_of (get_or m.times i None) }
 {
     if stored.has_room(table_rows::TIMES_MOST, i) {
         let a = table_rows::TIMES_AT + i * table_rows::TIMES_WIDTH;

@@ -4,7 +4,7 @@
 ghost use Rattle.std.specs.Prelude.{◌≡◌};
 ghost use Rattle.stored_words.specs.Words.{span_from, field_from, found_from, amount_from};
 
-use leaf_fields::{Span};
+use leaf_fields::Span;
 
 // A span by its place and its length; one that would end beyond every place is empty.
 pub fn span_from(at: usize, long: usize) -> Span

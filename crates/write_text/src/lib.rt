@@ -1,8 +1,8 @@
 // How the programs write numbers and names: each is a value that is displayed.
 #![tactic(auto)]
 
-use leaf_fields::{Span};
-use scope::{LinkStatus};
+use leaf_fields::Span;
+use scope::LinkStatus;
 use std::fmt;
 
 // The eight bytes of a number as hexadecimal digits; every NaN is the same.
