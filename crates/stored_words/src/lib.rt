@@ -27,10 +27,8 @@ pub fn field_from(at: usize, long: usize) -> Option<Span>
 pub fn found_from(n: u64) -> Option<usize>
     ensures { result ≡ found_from n }
 {
-    if n == 0 {
-        return None;
-    }
-    Some((n - 1) as usize)
+    let i = n.checked_sub(1)?;
+    Some(i as usize)
 }
 
 // A number by its mark and itself: without a mark there is none.
