@@ -1,7 +1,10 @@
 -- What a condition and an action are, from what the code was told. Assumes nothing.
 use Rattle.std.specs.Prelude.{None, Some, Option}
 use Prim.Native.Nat.{ℕ}
-use mathlib.Core.Path.{◌≡◌, refl}
+use Rattle.std.specs.Prelude.{Err, IsErr, IsErrAnd, Result}
+use Rattle.std.proofs.lemmas.Result.{err_from_is_err_and}
+use Rattle.scope.specs.declared.Reason.{Reason}
+use mathlib.Core.Path.{◌≡◌, ◌∙◌, ap, refl}
 use mathlib.Core.Bool.{Bool, true, false, cond}
 use mathlib.Core.List.{List, [], ◌∷◌}
 use lib.ListN.{get_or}
@@ -17,6 +20,10 @@ use Rattle.scope.specs.Values.{Read, good, bad, on_read, on_took, on_found, name
 use Rattle.scope.specs.Rules.{system_target, system_from, named_from, kind_fits, action_of, deed_of, Draft, ruled, conditioned, acted, anded, ranked, line_of}
 use Rattle.rule_clauses.specs.declared.RuleWord.TheVariants as word
 use Rattle.rule_clauses.specs.Clauses.{attribute_from, head_from, deed_from, action_with, action_at, rule_word, line_by}
+
+-- what `?` hands on
+pub handed-on : {A : Type 0} {r : Result A Reason} {why : Reason} → IsErr r × IsErrAnd r (λ x. x ≡ why) → r ≡ Err why
+handed-on {A} {r} h = let (e, is, q) = err_from_is_err_and r h.1 in is ∙ ap Err q
 
 -- ---- targets
 pub system_is : (fs : List Name) → system_from fs ≡ attribute_from system_target None fs
