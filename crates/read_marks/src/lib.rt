@@ -8,6 +8,7 @@ ghost use Rattle.read_marks.specs.Filled.{filled};
 ghost use Rattle.read_marks.specs.Marked.{closed_in, refused_in};
 
 use scope::{Reason, Survey};
+use table_codes::Coded;
 
 // A piece that was refused: why, and the line that its reason stands at.
 #[derive(Clone, Copy)]
@@ -70,7 +71,7 @@ pub fn mark_reason(reasons: &mut [u8], refused: Option<Refusal>)
     ensures { reasons.new ≡ refused_in refused reasons.old }
 {
     if let Some(refusal) = refused {
-        reasons[refusal.piece - 1] = table_codes::reason_number(refusal.reason);
+        reasons[refusal.piece - 1] = refusal.reason.code();
     }
 }
 

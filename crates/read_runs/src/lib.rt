@@ -51,7 +51,7 @@ fn file_lines(
                     return PlainRun {
                         state: t,
                         class: table_codes::TAKEN,
-                        reason: table_codes::reason_number(r),
+                        reason: r.code(),
                         end: e,
                     };
                 }

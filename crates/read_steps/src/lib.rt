@@ -171,7 +171,7 @@ fn close(
             state: s.shut(counts, e),
             class: own_class(dropped, table_codes::RULE_REFUSED),
             closed: table_codes::RULE_REFUSED,
-            reason: table_codes::reason_number(r),
+            reason: r.code(),
             piece: no,
         },
     }

@@ -1,7 +1,7 @@
 // The counts of the records read back by value, from the words that a reading filled; and whether a record has room there.
 #![tactic(auto)]
 
-ghost use Rattle.std.specs.Prelude.{◌≡◌, List, ◌++◌, ℕ, length, drop};
+ghost use Rattle.std.specs.Prelude.{◌≡◌, List, ◌++◌, ◌+◌, ◌*◌, ◌<◌, ◌⊎◌, true, false, ℕ, length, take, drop, MatchOption};
 ghost use Rattle.scope.specs.Records.{Network, counts_of};
 ghost use Rattle.scope.specs.Tables.{tally_words};
 ghost use Rattle.scope.specs.Layout.{record_words};
@@ -15,6 +15,14 @@ pub struct Stored<'a> {
     pub text: &'a [u8],
     pub words: &'a [u64],
     pub numbers: &'a [f64],
+}
+
+// Row i of a table, N elements a row from place `at` on; none where the table ends before its end.
+fn row<T, const N: usize>(table: &[T], at: usize, i: usize) -> Option<&[T; N]>
+    ensures { MatchOption result (length table.now < at + i * N + N) (λ r. r.now ≡ take N (drop (at + i * N) table.now)) }
+{
+    let start = i.checked_mul(N)?.checked_add(at)?;
+    table.get(start..)?.first_chunk()
 }
 
 impl<'a> Stored<'a> {
@@ -61,5 +69,38 @@ impl<'a> Stored<'a> {
         ensures { result ≡ have_room (length self.entry.words.now) (length self.entry.numbers.now) room i }
     {
         table_rows::NUMBERS_ROOM <= self.numbers.len() && self.has_room(room, i)
+    }
+
+    // The words of record i of a kind, W each from place `at` on; none past the room for `most`, or in words too few for a network.
+    pub fn words_of<const W: usize>(self, at: usize, most: usize, i: usize) -> Option<&'a [u64; W]>
+        ensures { MatchOption result (has_room (length self.entry.words.now) most i ≡ false ⊎ length self.entry.words.now < at + i * W + W)
+            (λ r. (has_room (length self.entry.words.now) most i ≡ true) × (r.now ≡ take W (drop (at + i * W) self.entry.words.now))) }
+    {
+        if self.has_room(most, i) {
+            row(self.words, at, i)
+        } else {
+            None
+        }
+    }
+
+    // The words and the numbers of record i of a kind, W and N each; none past the room for `most`, or in tables too short for a network.
+    pub fn rows<const W: usize, const N: usize>(
+        self,
+        words_at: usize,
+        numbers_at: usize,
+        most: usize,
+        i: usize,
+    ) -> Option<(&'a [u64; W], &'a [f64; N])>
+        ensures { MatchOption result
+            (have_room (length self.entry.words.now) (length self.entry.numbers.now) most i ≡ false
+            ⊎ (length self.entry.words.now < words_at + i * W + W ⊎ length self.entry.numbers.now < numbers_at + i * N + N))
+            (λ r. (have_room (length self.entry.words.now) (length self.entry.numbers.now) most i ≡ true)
+            × (r.0.now ≡ take W (drop (words_at + i * W) self.entry.words.now)) × (r.1.now ≡ take N (drop (numbers_at + i * N) self.entry.numbers.now))) }
+    {
+        if self.have_room(most, i) {
+            row(self.words, words_at, i).zip(row(self.numbers, numbers_at, i))
+        } else {
+            None
+        }
     }
 }

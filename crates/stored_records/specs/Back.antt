@@ -37,11 +37,11 @@ pub record Stands (m : Network) (w : List ℕ) (f : List Float) : Type 0 where
   pub numbers : Numbers m (take room_numbers f)
 
 -- ---- a record by its words a and its numbers b, each by its place in the record
-abbrev pub words_from : List ℕ → ℕ → ℕ → ℕ
-words_from w at j = get_or w (at + j) 0
+abbrev pub words_in : List ℕ → ℕ → ℕ
+words_in l j = get_or l j 0
 
-abbrev pub numbers_from : List Float → ℕ → ℕ → Float
-numbers_from f at j = get_or f (at + j) nan
+abbrev pub numbers_in : List Float → ℕ → Float
+numbers_in l j = get_or l j nan
 
 abbrev pub junction_by : (ℕ → ℕ) → (ℕ → Float) → junctionOut.Junction
 junction_by a b = record { elevation = b node_elevation; emitter = b junction_emitter; disabled = eqb (a node_detail) 1 }

@@ -53,15 +53,18 @@ pub struct Demand {
 pub fn curve_at(stored: Stored, i: usize) -> Curve
     ensures { (m : Network) (f : List Float) → Stands m stored.entry.words.now f → result ≡ curve_back (get_or m.curves i no_name) }
 {
-    if stored.has_room(table_rows::CURVES_MOST, i) {
-        let id = stored_records::span_at(
-            stored,
-            table_rows::CURVES_AT + i * table_rows::CURVES_WIDTH,
-        );
-        return Curve { id };
-    }
-    Curve {
-        id: Span { at: 0, end: 0 },
+    let row: Option<&[u64; table_rows::CURVES_WIDTH]> = stored.words_of(
+        table_rows::CURVES_AT,
+        table_rows::CURVES_MOST,
+        i,
+    );
+    match row {
+        Some(words) => Curve {
+            id: stored_records::span_at(words, table_rows::ID_PLACE),
+        },
+        None => Curve {
+            id: Span { at: 0, end: 0 },
+        },
     }
 }
 
@@ -69,77 +72,106 @@ pub fn curve_at(stored: Stored, i: usize) -> Curve
 pub fn pattern_at(stored: Stored, i: usize) -> Pattern
     ensures { (m : Network) (f : List Float) → Stands m stored.entry.words.now f → result ≡ pattern_back (get_or m.patterns i no_name) }
 {
-    if stored.has_room(table_rows::PATTERNS_MOST, i) {
-        let id = stored_records::span_at(
-            stored,
-            table_rows::PATTERNS_AT + i * table_rows::PATTERNS_WIDTH,
-        );
-        return Pattern { id };
-    }
-    Pattern {
-        id: Span { at: 0, end: 0 },
+    let row: Option<&[u64; table_rows::PATTERNS_WIDTH]> = stored.words_of(
+        table_rows::PATTERNS_AT,
+        table_rows::PATTERNS_MOST,
+        i,
+    );
+    match row {
+        Some(words) => Pattern {
+            id: stored_records::span_at(words, table_rows::ID_PLACE),
+        },
+        None => Pattern {
+            id: Span { at: 0, end: 0 },
+        },
     }
 }
+
+type PointWords = [u64; table_rows::POINTS_WIDTH];
+
+type PointNumbers = [f64; table_rows::POINT_NUMBERS_WIDTH];
 
 // Point number i.
 pub fn point_at(stored: Stored, i: usize) -> Point
     ensures { (m : Network) → Stands m stored.entry.words.now stored.entry.numbers.now → result ≡ point_back (get_or m.points i no_point) }
 {
-    if stored.have_room(table_rows::POINTS_MOST, i) {
-        let b = table_rows::POINT_NUMBERS_AT + i * table_rows::POINT_NUMBERS_WIDTH;
-        return Point {
-            curve: stored.words[table_rows::POINTS_AT + i] as usize,
-            x: stored.numbers[b + table_rows::POINT_X],
-            y: stored.numbers[b + table_rows::POINT_Y],
-        };
-    }
-    Point {
-        curve: 0,
-        x: 0.0,
-        y: 0.0,
+    let row: Option<(&PointWords, &PointNumbers)> = stored.rows(
+        table_rows::POINTS_AT,
+        table_rows::POINT_NUMBERS_AT,
+        table_rows::POINTS_MOST,
+        i,
+    );
+    match row {
+        Some((words, numbers)) => Point {
+            curve: words[0] as usize,
+            x: numbers[table_rows::POINT_X],
+            y: numbers[table_rows::POINT_Y],
+        },
+        None => Point {
+            curve: 0,
+            x: 0.0,
+            y: 0.0,
+        },
     }
 }
+
+type MultiplierWords = [u64; table_rows::MULTIPLIERS_WIDTH];
+
+type MultiplierNumbers = [f64; table_rows::MULTIPLIER_NUMBERS_WIDTH];
 
 // Multiplier number i.
 pub fn multiplier_at(stored: Stored, i: usize) -> Multiplier
     ensures { (m : Network) → Stands m stored.entry.words.now stored.entry.numbers.now → result ≡ multiplier_back (get_or m.multipliers i no_multiplier) }
 {
-    if stored.have_room(table_rows::MULTIPLIERS_MOST, i) {
-        return Multiplier {
-            pattern: stored.words[table_rows::MULTIPLIERS_AT + i] as usize,
-            value: stored.numbers[table_rows::MULTIPLIER_NUMBERS_AT + i],
-        };
-    }
-    Multiplier {
-        pattern: 0,
-        value: 0.0,
+    let row: Option<(&MultiplierWords, &MultiplierNumbers)> = stored.rows(
+        table_rows::MULTIPLIERS_AT,
+        table_rows::MULTIPLIER_NUMBERS_AT,
+        table_rows::MULTIPLIERS_MOST,
+        i,
+    );
+    match row {
+        Some((words, numbers)) => Multiplier {
+            pattern: words[0] as usize,
+            value: numbers[0],
+        },
+        None => Multiplier {
+            pattern: 0,
+            value: 0.0,
+        },
     }
 }
 
 // ---- demands and times
 
+type DemandWords = [u64; table_rows::DEMANDS_WIDTH];
+
+type DemandNumbers = [f64; table_rows::DEMAND_NUMBERS_WIDTH];
+
 // Demand number i.
 pub fn demand_at(stored: Stored, i: usize) -> Demand
     ensures { (m : Network) → Stands m stored.entry.words.now stored.entry.numbers.now → result ≡ demand_back (get_or m.demands i no_demand) }
 {
-    if stored.have_room(table_rows::DEMANDS_MOST, i) {
-        let a = table_rows::DEMANDS_AT + i * table_rows::DEMANDS_WIDTH;
-        let pattern = stored_records::field_at(stored, a + table_rows::DEMAND_NAME);
-        let index = stored_words::found_from(stored.words[a + table_rows::DEMAND_INDEX]);
-        return Demand {
-            node: stored.words[a + table_rows::DEMAND_NODE] as usize,
-            own: stored.words[a + table_rows::DEMAND_OWN] == 1,
-            base: stored.numbers[table_rows::DEMAND_NUMBERS_AT + i],
-            pattern,
-            index,
-        };
-    }
-    Demand {
-        node: 0,
-        own: false,
-        base: 0.0,
-        pattern: None,
-        index: None,
+    let row: Option<(&DemandWords, &DemandNumbers)> = stored.rows(
+        table_rows::DEMANDS_AT,
+        table_rows::DEMAND_NUMBERS_AT,
+        table_rows::DEMANDS_MOST,
+        i,
+    );
+    match row {
+        Some((words, numbers)) => Demand {
+            node: words[table_rows::DEMAND_NODE] as usize,
+            own: words[table_rows::DEMAND_OWN] == 1,
+            base: numbers[0],
+            pattern: stored_records::field_at(words, table_rows::DEMAND_NAME),
+            index: stored_words::found_from(words[table_rows::DEMAND_INDEX]),
+        },
+        None => Demand {
+            node: 0,
+            own: false,
+            base: 0.0,
+            pattern: None,
+            index: None,
+        },
     }
 }
 
@@ -147,12 +179,10 @@ pub fn demand_at(stored: Stored, i: usize) -> Demand
 pub fn time_at(stored: Stored, i: usize) -> Option<u64>
     ensures { (m : Network) (f : List Float) → Stands m stored.entry.words.now f → result ≡ amount_of (get_or m.times i None) }
 {
-    if stored.has_room(table_rows::TIMES_MOST, i) {
-        let a = table_rows::TIMES_AT + i * table_rows::TIMES_WIDTH;
-        return stored_words::amount_from(
-            stored.words[a + table_rows::TIME_SET],
-            stored.words[a + table_rows::TIME_SECONDS],
-        );
-    }
-    None
+    let row: &[u64; table_rows::TIMES_WIDTH] = stored.words_of(
+        table_rows::TIMES_AT,
+        table_rows::TIMES_MOST,
+        i,
+    )?;
+    stored_words::amount_from(row[table_rows::TIME_SET], row[table_rows::TIME_SECONDS])
 }

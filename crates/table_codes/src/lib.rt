@@ -24,6 +24,7 @@ pub trait Coded {
     fn code(self) -> Self::Code
         ensures { result ≡ code self };
 
+    // What it stands for; where it stands for nothing, one of the values.
     fn from_code(stored: Self::Code) -> Self
         ensures { result ≡ from_code stored };
 
@@ -296,94 +297,6 @@ impl Coded for Reason {
             _ => Reason::SmallTable,
         }
     }
-}
-
-// ---- the same by name of the type, until the callers use the trait
-
-pub fn pipe_status_number(s: PipeStatus) -> u64
-    ensures { result ≡ pipe_status_no s }
-{
-    s.code()
-}
-
-pub fn pipe_status_from(n: u64) -> PipeStatus
-    ensures { result ≡ pipe_status_from n }
-{
-    PipeStatus::from_code(n)
-}
-
-pub fn valve_type_number(t: ValveType) -> u64
-    ensures { result ≡ type_no t }
-{
-    t.code()
-}
-
-pub fn valve_type_from(n: u64) -> ValveType
-    ensures { result ≡ type_from n }
-{
-    ValveType::from_code(n)
-}
-
-pub fn target_number(t: Target) -> u64
-    ensures { result ≡ target_no t }
-{
-    t.code()
-}
-
-pub fn target_from(n: u64) -> Target
-    ensures { result ≡ target_from n }
-{
-    Target::from_code(n)
-}
-
-pub fn comparison_number(c: Comparison) -> u64
-    ensures { result ≡ comparison_no c }
-{
-    c.code()
-}
-
-pub fn comparison_from(n: u64) -> Comparison
-    ensures { result ≡ comparison_from n }
-{
-    Comparison::from_code(n)
-}
-
-pub fn operator_number(o: Operator) -> u64
-    ensures { result ≡ operator_no o }
-{
-    o.code()
-}
-
-pub fn operator_from(n: u64) -> Operator
-    ensures { result ≡ operator_from n }
-{
-    Operator::from_code(n)
-}
-
-pub fn value_word(v: Value) -> u64
-    ensures { result ≡ value_no v }
-{
-    let (status, _) = v.code();
-    status
-}
-
-pub fn value_number(v: Value) -> f64
-    ensures { result ≡ value_number v }
-{
-    let (_, number) = v.code();
-    number
-}
-
-pub fn value_from(n: u64, x: f64) -> Value
-    ensures { result ≡ value_from n x }
-{
-    Value::from_code((n, x))
-}
-
-pub fn reason_number(r: Reason) -> u8
-    ensures { result ≡ reason_no r }
-{
-    r.code()
 }
 
 // ---- kinds and classes

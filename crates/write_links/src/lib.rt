@@ -5,7 +5,7 @@ use scope::{LinkKind, PipeStatus, ValveType};
 use std::io;
 use std::io::Write;
 use stored_counts::Stored;
-use write_text::{Bits, Id, Name};
+use write_text::{Bits, Id};
 
 // A pipe's status, and whether it has a check valve: such a pipe is open.
 fn pipe_words(s: PipeStatus) -> (&'static str, u8) {
@@ -48,7 +48,7 @@ fn show_link<W: Write>(out: &mut W, stored: Stored, i: usize) -> io::Result<()> 
         }
         LinkKind::Pump(p) => {
             let speed = Bits(p.speed);
-            let head = Name::of(stored.text, p.head);
+            let head = write_text::name_in(stored.text, p.head);
             let power = Bits(p.power);
             writeln!(
                 out,
@@ -57,7 +57,7 @@ fn show_link<W: Write>(out: &mut W, stored: Stored, i: usize) -> io::Result<()> 
         }
         LinkKind::Valve(v) => {
             let kind = type_word(v.valve_type);
-            let curve = Name::of(stored.text, v.curve);
+            let curve = write_text::name_in(stored.text, v.curve);
             writeln!(
                 out,
                 "link VALVE {id} {start} {end} ACTIVE {} {kind} {} {} {curve}",

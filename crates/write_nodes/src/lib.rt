@@ -5,31 +5,16 @@ use std::io::Write;
 use std::{fmt, io};
 use stored_counts::Stored;
 use stored_parts::Part;
-use stored_records::{Node, NodeKind};
-use write_text::{Bits, Id, Index, Name};
-
-// Where a node stands on the map; `-` where no line says it.
-#[derive(Clone, Copy)]
-struct Place(Node);
-
-impl fmt::Display for Place {
-    fn fmt<W: fmt::Write>(&self, f: &mut fmt::Formatter<W>) -> fmt::Result {
-        let node = self.0;
-        if node.placed {
-            write!(f, "{},{}", Bits(node.x), Bits(node.y))
-        } else {
-            f.write_char('-')
-        }
-    }
-}
+use stored_records::NodeKind;
+use write_text::{Bits, Id, OrDash, Pair};
 
 fn show_demands<W: Write>(out: &mut W, stored: Stored, node: usize) -> io::Result<()> {
     for k in 0..stored.counts().demands {
         let d = stored_series::demand_at(stored, k);
         if d.node == node {
             let base = Bits(d.base);
-            let pattern = Name::of(stored.text, d.pattern);
-            let index = Index(d.index);
+            let pattern = write_text::name_in(stored.text, d.pattern);
+            let index = write_text::index_of(d.index);
             writeln!(out, "  demand {base} {pattern} {index}")?;
         }
     }
@@ -40,7 +25,7 @@ fn show_demands<W: Write>(out: &mut W, stored: Stored, node: usize) -> io::Resul
 fn show_node<W: Write>(out: &mut W, stored: Stored, i: usize) -> io::Result<()> {
     let node = stored_records::node_at(stored, i);
     let id = Id::of(stored.text, node.id);
-    let place = Place(node);
+    let place = OrDash(node.place.map(|place| Pair(place.x, place.y)));
     match node.kind {
         NodeKind::Junction(j) => {
             let elevation = Bits(j.elevation);
@@ -55,13 +40,13 @@ fn show_node<W: Write>(out: &mut W, stored: Stored, i: usize) -> io::Result<()> 
         }
         NodeKind::Reservoir(r) => {
             let elevation = Bits(r.elevation);
-            let pattern = Name::of(stored.text, r.pattern);
-            let index = Index(r.index);
+            let pattern = write_text::name_in(stored.text, r.pattern);
+            let index = write_text::index_of(r.index);
             writeln!(out, "node R {id} {elevation} {place} 0 {pattern} {index}")
         }
         NodeKind::Tank(t) => {
             let elevation = Bits(t.elevation);
-            let curve = Name::of(stored.text, t.curve);
+            let curve = write_text::name_in(stored.text, t.curve);
             writeln!(
                 out,
                 "node T {id} {elevation} {place} 0 {elevation} {} {} {} {} {} {curve} {}",

@@ -9,7 +9,7 @@ use std::io::Write;
 use std::{fmt, io};
 use stored_counts::Stored;
 use stored_records::Clause;
-use write_text::{Bits, Id, Name};
+use write_text::{Bits, Id, OrDash};
 
 // ---- words
 
@@ -82,7 +82,7 @@ impl fmt::Display for Written {
 fn show_condition<W: Write>(out: &mut W, text: &[u8], c: Condition) -> io::Result<()> {
     let operator = operator_word(c.operator);
     let kind = kind_word(c.target);
-    let name = Name::of(text, c.name);
+    let name = write_text::name_in(text, c.name);
     let attribute = attribute_word(c.target);
     let comparison = comparison_word(c.comparison);
     let value = Written(c.value);
@@ -110,11 +110,8 @@ fn show_rule<W: Write>(out: &mut W, stored: Stored, i: usize) -> io::Result<()> 
     let id = Id::of(stored.text, rule.id);
     let conditions = stored_parts::conditions_between(stored, first, end);
     let actions = stored_parts::actions_between(stored, first, end);
-    write!(out, "rule {id} {conditions} {actions} ")?;
-    match rule.priority {
-        Some(n) => writeln!(out, "{n}")?,
-        None => writeln!(out, "-")?,
-    }
+    let priority = OrDash(rule.priority);
+    writeln!(out, "rule {id} {conditions} {actions} {priority}")?;
     for k in first..end {
         if let Clause::Condition(c) = stored_records::clause_at(stored, k) {
             show_condition(out, stored.text, c)?;

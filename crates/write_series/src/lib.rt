@@ -5,7 +5,7 @@ use std::io;
 use std::io::Write;
 use stored_counts::Stored;
 use stored_parts::Part;
-use write_text::{Bits, Id};
+use write_text::{Bits, Id, Pair};
 
 // Every curve with its points, in file order.
 pub fn show_curves<W: Write>(out: &mut W, stored: Stored) -> io::Result<()> {
@@ -18,7 +18,7 @@ pub fn show_curves<W: Write>(out: &mut W, stored: Stored) -> io::Result<()> {
         for k in 0..counts.points {
             let point = stored_series::point_at(stored, k);
             if point.curve == i {
-                write!(out, " {},{}", Bits(point.x), Bits(point.y))?;
+                write!(out, " {}", Pair(point.x, point.y))?;
             }
         }
         writeln!(out)?;

@@ -19,6 +19,16 @@ impl fmt::Display for Bits {
     }
 }
 
+// A place on the map or a point of a curve.
+#[derive(Clone, Copy)]
+pub struct Pair(pub f64, pub f64);
+
+impl fmt::Display for Pair {
+    fn fmt<W: fmt::Write>(&self, f: &mut fmt::Formatter<W>) -> fmt::Result {
+        write!(f, "{},{}", Bits(self.0), Bits(self.1))
+    }
+}
+
 // The letters of a name behind `=`. A backslash, a space and what does not print are escaped.
 #[derive(Clone, Copy)]
 pub struct Id<'a>(pub &'a [u8]);
@@ -42,38 +52,32 @@ impl fmt::Display for Id<'_> {
     }
 }
 
-// A name as an id; `-` where there is none.
+// A value; `-` where there is none.
 #[derive(Clone, Copy)]
-pub struct Name<'a> {
-    text: &'a [u8],
-    place: Option<Span>,
-}
+pub struct OrDash<T>(pub Option<T>);
 
-impl Name<'_> {
-    pub fn of(text: &[u8], place: Option<Span>) -> Name<'_> {
-        Name { text, place }
-    }
-}
-
-impl fmt::Display for Name<'_> {
+impl<T: fmt::Display> fmt::Display for OrDash<T> {
     fn fmt<W: fmt::Write>(&self, f: &mut fmt::Formatter<W>) -> fmt::Result {
-        match self.place {
-            Some(place) => Id::of(self.text, place).fmt(f),
+        match &self.0 {
+            Some(x) => x.fmt(f),
             None => f.write_char('-'),
         }
     }
 }
 
-// A place in a table; `-` where there is none.
-#[derive(Clone, Copy)]
-pub struct Index(pub Option<usize>);
+// A name, if there is one.
+pub fn name_in(text: &[u8], name: Option<Span>) -> OrDash<Id<'_>> {
+    match name {
+        Some(place) => OrDash(Some(Id::of(text, place))),
+        None => OrDash(None),
+    }
+}
 
-impl fmt::Display for Index {
-    fn fmt<W: fmt::Write>(&self, f: &mut fmt::Formatter<W>) -> fmt::Result {
-        match self.0 {
-            Some(i) => write!(f, "{i}"),
-            None => f.write_char('-'),
-        }
+// A place in a table, if there is one.
+pub fn index_of(found: Option<usize>) -> OrDash<usize> {
+    match found {
+        Some(i) => OrDash(Some(i)),
+        None => OrDash(None),
     }
 }
 
