@@ -3,24 +3,24 @@ use Rattle.std.specs.Prelude.{Err, None, Ok, Some, Option}
 use Prim.Native.Nat.{ℕ, ◌+◌, ◌*◌, ◌≤◌, ◌<◌}
 use native.Mathlib.Omega.{arith}
 use borrow.Author.Tests.{lt-ltb, le-ltb}
-use mathlib.Core.Path.{◌≡◌, refl, ap, subst}
+use Rattle.std.specs.Option.{is_some}
+use mathlib.Core.Bool.{true, false}
+use mathlib.Core.Path.{◌≡◌, refl, ap, ◌∙◌}
 use mathlib.Core.List.{List, [], ◌∷◌, ◌++◌}
 use lib.ListN.{length, get_or, length-append}
 use lib.Ieee.{Float}
 use Rattle.leaf_fields.specs.Fields.{Name}
-use Rattle.scope.specs.declared.Reason.TheVariants.{Used, NotFound, NoRoom}
+use Rattle.scope.specs.declared.Reason.TheVariants.{Used, NoRoom}
 use Rattle.scope.specs.declared.Counts.{Counts}
 use Rattle.scope.specs.Sections.{room_links}
-use Rattle.scope.specs.Records.{Network, Link, LinkKind, pipe, pump, valve, lookup, node_ids, link_ids}
-use Rattle.scope.specs.Values.{Read, good, bad}
-use Rattle.scope.specs.Links.{Ends, new_link, ends_of, add_link, LinkFields, store_link}
+use Rattle.scope.specs.Records.{Network, Link, LinkKind, pipe, pump, valve, lookup, link_ids}
+use Rattle.scope.specs.Links.{Ends, new_link, add_link}
 use Rattle.scope.specs.Tables.{id_words, name_words, type_no, link_kind_words, link_words, link_numbers}
 use Rattle.table_rows.specs.Table.{splice}
 use Rattle.scope.specs.Layout.{link_numbers_at, link_numbers_width}
 use Rattle.table_rows.specs.Adding.{link_added}
 use Rattle.table_rows.specs.Holding.{Sits, Holds, After}
 use Rattle.table_rows.proofs.HoldLaws.{add-link, count-links}
-use Rattle.store_links.specs.Storing.{ends_at, EndsAs}
 
 -- ---- the words of a link, one by one
 pub name-pair : (n : Option Name) → get_or (name_words n) 0 0 ∷ get_or (name_words n) 1 0 ∷ [] ≡ name_words n
@@ -36,31 +36,21 @@ pub link_row : (x : Link) {i k : List ℕ} → i ≡ id_words x.id → k ≡ lin
     → get_or i 0 0 ∷ get_or i 1 0 ∷ get_or i 2 0 ∷ x.start ∷ x.end ∷ get_or k 0 0 ∷ get_or k 1 0 ∷ get_or k 2 0 ∷ get_or k 3 0 ∷ [] ≡ link_words x
 link_row x ei ek = rw (ei, ek) (ap (λ (r : List ℕ). id_words x.id ++ (x.start ∷ x.end ∷ r)) (kind_row x.kind))
 
--- ---- looking the nodes up
-pub told-ends : (o : Read Ends) {r r' : Option (ℕ × ℕ)} → r ≡ r' → EndsAs o r → EndsAs o r'
-told-ends o e h = subst (λ (x : Option (ℕ × ℕ)). EndsAs o x) e h
-
-module _ (start end : Name) (m : Network) where
-  pub no_start : lookup (node_ids m) start.letters ≡ None → ends_of start end m ≡ bad NotFound
-  unfolding ends_of
-  no_start e = rw e
-
-  module _ {a : ℕ} (ea : lookup (node_ids m) start.letters ≡ Some a) where
-    pub no_end : lookup (node_ids m) end.letters ≡ None → ends_of start end m ≡ bad NotFound
-    unfolding ends_of
-    no_end e = rw (ea, e)
-
-    pub both_ends : {b : ℕ} → lookup (node_ids m) end.letters ≡ Some b → ends_of start end m ≡ good (ends_at a b)
-    unfolding ends_of
-    both_ends e = rw (ea, e)
-
 -- ---- adding a link whose ends are known
-module _ {text : List ℕ} {m : Network} {s : Counts} {w : List ℕ} {f : List Float} (h : Holds text m s w f) (id : Name) (e : Ends) (k : LinkKind) where
-  pub link-used : {i : ℕ} → lookup (link_ids m) id.letters ≡ Some i → After text (add_link id e k m) (Err Used) w f w f
-  unfolding add_link
-  link-used used = rw used (refl, refl, refl)
+none-of : {A : Type 0} (o : Option A) → is_some o ≡ false → o ≡ None
+none-of None t = refl
+none-of (Some x) t = cc
 
-  module _ (free : lookup (link_ids m) id.letters ≡ None) where
+module _ {text : List ℕ} {m : Network} {s : Counts} {w : List ℕ} {f : List Float} (h : Holds text m s w f) (id : Name) (e : Ends) (k : LinkKind) where
+  pub link-used : (o : Option ℕ) → lookup (link_ids m) id.letters ≡ o → is_some o ≡ true → After text (add_link id e k m) (Err Used) w f w f
+  unfolding add_link
+  link-used (Some i) used t = rw used (refl, refl, refl)
+  link-used None used t = cc
+
+  module _ (o : Option ℕ) (looked : lookup (link_ids m) id.letters ≡ o) (t : is_some o ≡ false) where
+    free : lookup (link_ids m) id.letters ≡ None
+    free = looked ∙ none-of o t
+
     pub links-full : room_links ≤ s.links → After text (add_link id e k m) (Err NoRoom) w f w f
     unfolding add_link
     links-full n = rw (free, le-ltb (length m.links) room_links (omega (arith, n, count-links h))) (refl, refl, refl)
@@ -75,13 +65,3 @@ module _ {text : List ℕ} {m : Network} {s : Counts} {w : List ℕ} {f : List F
     link-stored sits n ew ef =
         let held = add-link h (new_link id e k) (count-links h) n sits ew ef in
         rw (free, lt-ltb (length m.links) room_links (omega (arith, n, count-links h))) (rw (h.counts, length-append), held)
-
--- ---- a pipe or a valve
-module _ (l : LinkFields) (m : Network) where
-  pub store-no-ends : ends_of l.start l.end m ≡ bad NotFound → store_link l m ≡ bad NotFound
-  unfolding store_link
-  store-no-ends e = rw e
-
-  pub store-ends : {e : Ends} → ends_of l.start l.end m ≡ good e → store_link l m ≡ add_link l.id e l.kind m
-  unfolding store_link
-  store-ends ends = rw ends

@@ -5,34 +5,34 @@ ghost use Rattle.std.specs.Prelude.{◌≡◌, List, ℕ, ◌+◌, ◌*◌, ◌�
 ghost use Rattle.leaf_fields.specs.Fields.{Name, fields_at, name_in, Fits};
 ghost use Rattle.scope.specs.Records.{Network};
 ghost use Rattle.scope.specs.Sections.{room_links};
-ghost use Rattle.scope.specs.Values.{Read, on_read};
-ghost use Rattle.scope.specs.Links.{ends_of, add_link, LinkFields, store_link, pipe_step, pump_step, valve_step};
+ghost use Rattle.scope.specs.Links.{ends_of, add_link, store_link, pipe_step, pump_step, valve_step};
 ghost use Rattle.scope.specs.Tables.{id_words, link_kind_words, link_numbers_of, link_numbers};
 ghost use Rattle.table_rows.specs.Table.{splice};
 ghost use Rattle.scope.specs.Layout.{link_numbers_at, link_numbers_width, record_words, room_numbers};
 ghost use Rattle.table_rows.specs.Adding.{link_added};
 ghost use Rattle.table_rows.specs.Holding.{Words, Holds, Sound, After};
-ghost use Rattle.parse_pipes.specs.Lines.{kind_in, line_in, LinkAs};
+ghost use Rattle.parse_pipes.specs.Lines.{kind_in, line_in};
 ghost use Rattle.store_links.specs.Storing.{link_in, ends_at, EndsAs};
 
 use leaf_fields::Span;
 use parse_pipes::{LinkLine, LinkNames};
 use scope::{Counts, Kind, LinkKind, Reason};
 
-fn find_ends(text: &[u8], names: LinkNames, nodes: usize, words: &[u64]) -> Option<(usize, usize)>
+// The places of the two nodes.
+#[tactic(auto, unfolding(scope::specs::Links::ends_of))]
+fn find_ends(
+    text: &[u8],
+    names: LinkNames,
+    nodes: usize,
+    words: &[u64],
+) -> Result<(usize, usize), Reason>
     requires { (m : Network) × Words text.now m words.now × (nodes ≡ length m.nodes) }
     ensures { (m : Network) → Words text.now m words.now → nodes ≡ length m.nodes
         → EndsAs (ends_of (name_in text.now names.start) (name_in text.now names.end) m) result }
 {
-    let first = table_find::node_named(text, words, nodes, names.start);
-    let Some(from) = first else {
-        return None;
-    };
-    let second = table_find::node_named(text, words, nodes, names.end);
-    let Some(to) = second else {
-        return None;
-    };
-    Some((from, to))
+    let from = table_find::node_named(text, words, nodes, names.start).ok_or(Reason::NotFound)?;
+    let to = table_find::node_named(text, words, nodes, names.end).ok_or(Reason::NotFound)?;
+    Ok((from, to))
 }
 
 // The kind; a pipe's status or a valve's type; a pump's or a valve's curve.
@@ -40,18 +40,14 @@ fn kind_words(text: &[u8], kind: LinkKind) -> [u64; 4]
     ensures { result ≡ link_kind_words (kind_in text.now kind) }
 {
     match kind {
-        LinkKind::Pipe(p) => {
-            let status = p.status;
-            [
-                table_codes::PIPE,
-                table_codes::pipe_status_number(status),
-                0,
-                0,
-            ]
-        }
+        LinkKind::Pipe(p) => [
+            table_codes::PIPE,
+            table_codes::pipe_status_number(p.status),
+            0,
+            0,
+        ],
         LinkKind::Pump(p) => {
-            let head = p.head;
-            let c = table_rows::name_words(text, head);
+            let c = table_rows::name_words(text, p.head);
             [
                 table_codes::PUMP,
                 0,
@@ -60,12 +56,10 @@ fn kind_words(text: &[u8], kind: LinkKind) -> [u64; 4]
             ]
         }
         LinkKind::Valve(v) => {
-            let kind = v.valve_type;
-            let curve = v.curve;
-            let c = table_rows::name_words(text, curve);
+            let c = table_rows::name_words(text, v.curve);
             [
                 table_codes::VALVE,
-                table_codes::valve_type_number(kind),
+                table_codes::valve_type_number(v.valve_type),
                 c[table_rows::NAME_PLACE],
                 c[table_rows::NAME_LENGTH],
             ]
@@ -101,7 +95,7 @@ fn put_link(
 {
     let k = kind_words(text, kind);
     let x = kind_numbers(kind);
-    table_rows::paste_words(
+    table_rows::paste(
         words,
         table_rows::LINKS_AT + n * table_rows::LINKS_WIDTH,
         &[
@@ -118,7 +112,7 @@ fn put_link(
     );
     let slot = table_rows::slot_of(who[table_rows::ID_KEY]);
     table_rows::mark(words, table_rows::LINK_SLOTS_AT + slot, n);
-    table_rows::paste_numbers(
+    table_rows::paste(
         numbers,
         table_rows::LINK_NUMBERS_AT + n * table_rows::LINK_NUMBERS_WIDTH,
         &x,
@@ -151,14 +145,12 @@ fn add_link(
         who[table_rows::ID_KEY],
         leaf_fields::letters_of(text, id),
     );
-    if let Some(_) = found {
+    if found.is_some() {
         return Err(Reason::Used);
     }
     if n < table_rows::LINKS_MOST {
         put_link(text, words, numbers, n, who, from, to, kind);
-        let mut t = s;
-        t.links = n + 1;
-        return Ok(t);
+        return Ok(Counts { links: n + 1, ..s });
     }
     Err(Reason::NoRoom)
 }
@@ -175,33 +167,8 @@ fn store_link(
     ensures { (m : Network) → Holds text.now m s words.old numbers.old
         → After text.now (store_link (line_in text.now line) m) result words.old numbers.old words.new numbers.new }
 {
-    let names = line.names;
-    let kind = line.kind;
-    let ends = find_ends(text, names, s.nodes, words);
-    let Some((from, to)) = ends else {
-        return Err(Reason::NotFound);
-    };
-    add_link(text, names.id, from, to, kind, s, words, numbers)
-}
-
-// A line of PIPES or VALVES as it was read from the text up to `end`: its link is stored, or it is refused.
-fn store_read(
-    text: &[u8],
-    end: usize,
-    read: Result<LinkLine, Reason>,
-    s: Counts,
-    words: &mut [u64],
-    numbers: &mut [f64],
-) -> Result<Counts, Reason>
-    requires { Sound text.now s words.old numbers.old × ((o : Read LinkFields) × LinkAs (take end text.now) o read) }
-    ensures { (m : Network) → Holds text.now m s words.old numbers.old
-        → (o : Read LinkFields) → LinkAs (take end text.now) o read
-        → After text.now (on_read o (λ l. store_link l m)) result words.old numbers.old words.new numbers.new }
-{
-    match read {
-        Ok(line) => store_link(text, line, s, words, numbers),
-        Err(why) => Err(why),
-    }
+    let (from, to) = find_ends(text, line.names, s.nodes, words)?;
+    add_link(text, line.names.id, from, to, line.kind, s, words, numbers)
 }
 
 // The line of PIPES from `at` to `end`.
@@ -217,8 +184,8 @@ pub fn pipe_line(
     ensures { (m : Network) → Holds text.now m s words.old numbers.old
         → After text.now (pipe_step (fields_at (take end text.now) at) m) result words.old numbers.old words.new numbers.new }
 {
-    let read = parse_pipes::read_pipe(&text[..end], at);
-    store_read(text, end, read, s, words, numbers)
+    let line = parse_pipes::read_pipe(&text[..end], at)?;
+    store_link(text, line, s, words, numbers)
 }
 
 // The line of VALVES from `at` to `end`.
@@ -234,8 +201,8 @@ pub fn valve_line(
     ensures { (m : Network) → Holds text.now m s words.old numbers.old
         → After text.now (valve_step (fields_at (take end text.now) at) m) result words.old numbers.old words.new numbers.new }
 {
-    let read = parse_valves::read_valve(&text[..end], at);
-    store_read(text, end, read, s, words, numbers)
+    let line = parse_valves::read_valve(&text[..end], at)?;
+    store_link(text, line, s, words, numbers)
 }
 
 // The line of PUMPS from `at` to `end`. Its nodes are looked up before its pairs are read.
@@ -251,20 +218,17 @@ pub fn pump_line(
     ensures { (m : Network) → Holds text.now m s words.old numbers.old
         → After text.now (pump_step (fields_at (take end text.now) at) m) result words.old numbers.old words.new numbers.new }
 {
-    let three = parse_pipes::read_names(&text[..end], at);
-    let Ok(names) = three else {
-        return Err(Reason::Missing);
-    };
-    let ends = find_ends(text, names, s.nodes, words);
-    let Some((from, to)) = ends else {
-        return Err(Reason::NotFound);
-    };
-    let read = parse_pumps::read_pairs(&text[..end], names.end.end);
-    match read {
-        Ok(p) => {
-            let kind = LinkKind::Pump(p);
-            add_link(text, names.id, from, to, kind, s, words, numbers)
-        }
-        Err(why) => Err(why),
-    }
+    let names = parse_pipes::read_names(&text[..end], at)?;
+    let (from, to) = find_ends(text, names, s.nodes, words)?;
+    let pump = parse_pumps::read_pairs(&text[..end], names.end.end)?;
+    add_link(
+        text,
+        names.id,
+        from,
+        to,
+        LinkKind::Pump(pump),
+        s,
+        words,
+        numbers,
+    )
 }

@@ -1,16 +1,14 @@
 -- `store_links::pipe_line` meets its contract. Assumes nothing.
-use mathlib.Core.Path.{sym}
-use lib.Seq.{length-take-le}
 use Rattle.scope.specs.Links.{pipe_step}
+use Rattle.store_links.proofs.LineLaws.{line-refused, line-text}
 use Rattle.store_links.proofs.pipe_line.Goals as goal
 
-pub slice_bounds-read_pipe-end : goal.slice_bounds-read_pipe-end
-slice_bounds-read_pipe-end c = sym (length-take-le c.args.end c.args.text.now c.requires.1)
-
-pub store_read-requires : goal.store_read-requires
-store_read-requires c = (c.requires.0, (_, c.read_pipe-read.ensures))
+pub returns-in_err-line : goal.returns-in_err-line
+unfolding pipe_step
+returns-in_err-line c =
+    λ m h. line-refused _ _ _ _ (rw c.in_err-line.ensures) c.from_residual.ensures
 
 pub returns : goal.returns
 unfolding pipe_step
 returns c =
-    λ m h. c.store_read.ensures m h _ c.read_pipe-read.ensures
+    λ m h. rw (line-text c.args.text.now c.args.end _ c.in_ok-line.ensures) (c.store_link.ensures m h)

@@ -18,7 +18,7 @@ returns c =
     let a = c.args in
     let link = link_in a.text.now id a.from a.to a.kind in (
       mark-alike (a.n + 1) c.mark.ensures
-          (c.paste_words.ensures ∙ ap (λ (r : List ℕ). splice a.words.now (links_at + a.n * links_width) r) (link_row link e c.kind_words-k.ensures))
+          (c.paste.ensures ∙ ap (λ (r : List ℕ). splice a.words.now (links_at + a.n * links_width) r) (link_row link e c.kind_words-k.ensures))
           (ap (λ (k : ℕ). link_slots_at + k) (c.slot_of-slot.ensures ∙ ap (λ (l : List ℕ). slot_of (get_or l id_key 0)) e)),
-      c.paste_numbers.ensures ∙ ap (λ (r : List Float). splice a.numbers.now (link_numbers_at + a.n * link_numbers_width) r) (c.kind_numbers-x.ensures a.text.now),
+      c.paste-2.ensures ∙ ap (λ (r : List Float). splice a.numbers.now (link_numbers_at + a.n * link_numbers_width) r) (c.kind_numbers-x.ensures a.text.now),
     )

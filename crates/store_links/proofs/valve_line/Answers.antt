@@ -1,16 +1,14 @@
 -- `store_links::valve_line` meets its contract. Assumes nothing.
-use mathlib.Core.Path.{sym}
-use lib.Seq.{length-take-le}
 use Rattle.scope.specs.Links.{valve_step}
+use Rattle.store_links.proofs.LineLaws.{line-refused, line-text}
 use Rattle.store_links.proofs.valve_line.Goals as goal
 
-pub slice_bounds-read_valve-end : goal.slice_bounds-read_valve-end
-slice_bounds-read_valve-end c = sym (length-take-le c.args.end c.args.text.now c.requires.1)
-
-pub store_read-requires : goal.store_read-requires
-store_read-requires c = (c.requires.0, (_, c.read_valve-read.ensures))
+pub returns-in_err-line : goal.returns-in_err-line
+unfolding valve_step
+returns-in_err-line c =
+    λ m h. line-refused _ _ _ _ (rw c.in_err-line.ensures) c.from_residual.ensures
 
 pub returns : goal.returns
 unfolding valve_step
 returns c =
-    λ m h. c.store_read.ensures m h _ c.read_valve-read.ensures
+    λ m h. rw (line-text c.args.text.now c.args.end _ c.in_ok-line.ensures) (c.store_link.ensures m h)
