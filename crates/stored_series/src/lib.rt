@@ -49,6 +49,8 @@ pub struct Demand {
 
 // ---- curves and patterns
 
+// These readers differ in their columns, their widths and what they make of them: one generic reader would take all three, and be no plainer.
+
 // Curve number i; past the end, an empty one. So it is for every record below.
 pub fn curve_at(stored: Stored, i: usize) -> Curve
     ensures { (m : Network) (f : List Float) → Stands m stored.entry.words.now f → result ≡ curve_back (get_or m.curves i no_name) }
