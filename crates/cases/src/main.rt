@@ -4,48 +4,30 @@
 #![tactic(auto)]
 
 use leaf_fields::Span;
-use scope::Action;
 use std::io;
 use std::io::{BufWriter, Read, Write};
+use stored_counts::Stored;
 use stored_records::Clause;
-use write_text::{count, flag, newline, write};
+use table_codes::Coded;
 
-fn show_records<W: Write>(out: &mut W, words: &[u64], numbers: &[f64]) -> io::Result<()> {
-    let counts = stored_counts::counts_at(words);
-    let all = counts.clauses;
-    write(out, b"records")?;
-    count(out, counts.nodes as u64)?;
-    count(out, counts.links as u64)?;
-    count(out, counts.curves as u64)?;
-    count(out, counts.patterns as u64)?;
-    count(out, counts.rules as u64)?;
-    count(
+fn show_records<W: Write>(out: &mut W, stored: Stored) -> io::Result<()> {
+    let all = stored.counts();
+    let conditions = stored_parts::conditions_between(stored, 0, all.clauses);
+    let actions = stored_parts::actions_between(stored, 0, all.clauses);
+    writeln!(
         out,
-        stored_parts::conditions_between(words, numbers, 0, all) as u64,
-    )?;
-    count(
-        out,
-        stored_parts::actions_between(words, numbers, 0, all) as u64,
-    )?;
-    newline(out)
+        "records {} {} {} {} {} {conditions} {actions}",
+        all.nodes, all.links, all.curves, all.patterns, all.rules
+    )
 }
 
-fn show_action<W: Write>(out: &mut W, a: Action) -> io::Result<()> {
-    let value = a.value;
-    write(out, b"do")?;
-    flag(out, a.otherwise)?;
-    count(out, a.link as u64)?;
-    count(out, table_codes::value_word(value))?;
-    newline(out)
-}
-
-fn show_actions<W: Write>(out: &mut W, words: &[u64], numbers: &[f64]) -> io::Result<()> {
-    let counts = stored_counts::counts_at(words);
-    let all = counts.clauses;
-    for k in 0..all {
-        let clause = stored_records::clause_at(words, numbers, k);
-        if let Clause::Action(a) = clause {
-            show_action(out, a)?;
+fn show_actions<W: Write>(out: &mut W, stored: Stored) -> io::Result<()> {
+    for k in 0..stored.counts().clauses {
+        if let Clause::Action(a) = stored_records::clause_at(stored, k) {
+            let otherwise = u8::from(a.otherwise);
+            let link = a.link;
+            let (status, _) = a.value.code();
+            writeln!(out, "do {otherwise} {link} {status}")?;
         }
     }
     Ok(())
@@ -55,32 +37,33 @@ fn show_case<W: Write>(out: &mut W, text: &[u8]) -> io::Result<()> {
     let mut words = [0u64; table_rows::WORDS_ROOM];
     let mut numbers = [0.0f64; table_rows::NUMBERS_ROOM];
     let a = read_strict::read_strict(text, &mut words, &mut numbers);
-    write(out, b"answer")?;
-    count(out, a.number as u64)?;
-    write(out, b" line")?;
-    count(out, a.line as u64)?;
-    newline(out)?;
-    show_records(out, &words, &numbers)?;
-    show_actions(out, &words, &numbers)
+    let stored = Stored {
+        text,
+        words: &words,
+        numbers: &numbers,
+    };
+    writeln!(out, "answer {} line {}", a.number, a.line)?;
+    show_records(out, stored)?;
+    show_actions(out, stored)
 }
 
-// The text from `at` up to `end`; before the first title there is none.
-fn show_part<W: Write>(out: &mut W, all: &[u8], at: usize, end: usize) -> io::Result<()> {
-    if at != 0 {
-        show_case(out, leaf_fields::letters_of(all, Span { at, end }))?;
+// The text from a place up to `end`; before the first title there is none.
+fn show_part<W: Write>(out: &mut W, all: &[u8], from: Option<usize>, end: usize) -> io::Result<()> {
+    match from {
+        Some(at) => show_case(out, leaf_fields::letters_of(all, Span { at, end })),
+        None => Ok(()),
     }
-    Ok(())
 }
 
 fn replay<W: Write>(out: &mut W, all: &[u8]) -> io::Result<()> {
-    let mut from = 0;
+    let mut from = None;
     let mut at = 0;
     while at < all.len() {
         let end = leaf_scans::line_end(all, at);
         if all[at] == b'#' {
             show_part(out, all, from, at)?;
-            write(out, leaf_fields::letters_of(all, Span { at, end }))?;
-            from = end;
+            out.write_all(leaf_fields::letters_of(all, Span { at, end }))?;
+            from = Some(end);
         }
         at = end;
     }

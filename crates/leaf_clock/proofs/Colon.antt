@@ -1,11 +1,23 @@
 -- The first colon, one byte further; and what hours and minutes come to. Assumes nothing.
-use Rattle.std.specs.Prelude.{Err, None, Ok, Some}
-use Rattle.std.proofs.Common.{◌≡◌, ℕ, suc, ◌+◌, ◌*◌, ◌%◌, ◌<◌, ◌≤◌, Bool, true, false, cond, eqb, List, [], ◌∷◌, length, get_or, drop, arith, drop_of_length-le, drop-cons, eq-eqb, ne_eqb, le-leb}
-use borrow.Author.Tests.{lt-leb}
-use Rattle.leaf_counts.specs.Counts.{count_of}
+use Rattle.std.specs.Prelude.{Err, None, Ok, Option, Result, Some, leb}
+use Rattle.std.proofs.Common.{◌≡◌, ℕ, suc, ◌+◌, ◌*◌, ◌%◌, ◌<◌, ◌≤◌, Bool, true, false, cond, eqb, List, [], ◌∷◌, length, get_or, drop, refl, sym, ◌∙◌, add-one, arith, drop_of_length-le, drop-cons, eq-eqb, ne_eqb, le-leb}
 use Rattle.leaf_letters.specs.Words.{spelled}
-use Rattle.leaf_clock.specs.declared.TimeError.TheVariants.{Malformed, Beyond}
-use Rattle.leaf_clock.specs.Times.{colon_at, word_am, word_pm, hour_of, colon_form}
+use Rattle.leaf_clock.specs.declared.TimeError.{TimeError}
+use Rattle.leaf_clock.specs.declared.TimeError.TheVariants.{Beyond}
+use Rattle.leaf_clock.specs.Times.{colon_at, word_am, word_pm, hour_of, on_count, colon_form}
+use Rattle.leaf_counts.specs.Counts.{count_of}
+
+pub colon-none : colon_at [] ≡ 0
+unfolding colon_at
+colon-none = refl
+
+pub colon-here : (b : ℕ) (t : List ℕ) → b ≡ 58 → colon_at (b ∷ t) ≡ 0
+unfolding colon_at
+colon-here b t e = rw (eq-eqb b 58 e)
+
+pub colon-later : (b : ℕ) (t : List ℕ) → (b ≡ 58 → ⊥) → colon_at (b ∷ t) ≡ colon_at t + 1
+unfolding colon_at
+colon-later b t e = rw (ne_eqb b 58 e, add-one)
 
 module _ (s : List ℕ) (i : ℕ) where
   pub colon-on : i < length s → get_or s i 0 ≡ 58 → colon_at (drop i s) ≡ 0
@@ -39,25 +51,35 @@ hour-le h suffix = go (spelled suffix word_am) (spelled suffix word_pm)
     go false true = omega arith
     go false false = omega arith
 
+-- hours, or minutes, once it is known what they are or why they are none
+taken : (c : Option ℕ) (go : ℕ → Result ℕ TimeError) (n : ℕ) → on_count c Ok ≡ Ok n → on_count c go ≡ go n
+taken None go n e = cc
+taken (Some x) go n e = by (leb x 1000000000) e
+  where
+    by : (q : Bool) → cond q (Ok x) (Err Beyond) ≡ Ok n → cond q (go x) (Err Beyond) ≡ go n
+    by true h = cc
+    by false h = cc
+
+refused : (c : Option ℕ) (go : ℕ → Result ℕ TimeError) (e : TimeError) → on_count c Ok ≡ Err e → on_count c go ≡ Err e
+refused None go e h = cc
+refused (Some x) go e h = by (leb x 1000000000) h
+  where
+    by : (q : Bool) → cond q (Ok x) (Err Beyond) ≡ Err e → cond q (go x) (Err Beyond) ≡ Err e
+    by true h = cc
+    by false h = cc
+
 module _ (hours minutes suffix : List ℕ) where
-  pub no-hours : count_of hours ≡ None → (Err Malformed) ≡ colon_form hours minutes suffix
+  pub no-hours : (e : TimeError) → on_count (count_of hours) Ok ≡ Err e → Err e ≡ colon_form hours minutes suffix
   unfolding colon_form
-  no-hours e = rw e
+  no-hours e h = sym (refused (count_of hours) (λ h. on_count (count_of minutes) (λ m. Ok (hour_of h suffix * 3600 + m * 60))) e h)
 
-  module _ (h : ℕ) (e : count_of hours ≡ Some h) where
-    pub many-hours : 1000000000 < h → (Err Beyond) ≡ colon_form hours minutes suffix
+  module _ (h : ℕ) (is : on_count (count_of hours) Ok ≡ Ok h) where
+    hours-taken : colon_form hours minutes suffix ≡ on_count (count_of minutes) (λ m. Ok (hour_of h suffix * 3600 + m * 60))
     unfolding colon_form
-    many-hours b = rw (e, lt-leb h 1000000000 b)
+    hours-taken = taken (count_of hours) (λ h. on_count (count_of minutes) (λ m. Ok (hour_of h suffix * 3600 + m * 60))) h is
 
-    pub no-minutes : h ≤ 1000000000 → count_of minutes ≡ None → (Err Malformed) ≡ colon_form hours minutes suffix
-    unfolding colon_form
-    no-minutes b f = rw (e, le-leb h 1000000000 b, f)
+    pub no-minutes : (e : TimeError) → on_count (count_of minutes) Ok ≡ Err e → Err e ≡ colon_form hours minutes suffix
+    no-minutes e f = sym (hours-taken ∙ refused (count_of minutes) (λ m. Ok (hour_of h suffix * 3600 + m * 60)) e f)
 
-    pub many-minutes : h ≤ 1000000000 → (m : ℕ) → count_of minutes ≡ Some m → 1000000000 < m → (Err Beyond) ≡ colon_form hours minutes suffix
-    unfolding colon_form
-    many-minutes b m f d = rw (e, le-leb h 1000000000 b, f, lt-leb m 1000000000 d)
-
-    pub both : h ≤ 1000000000 → (m : ℕ) → count_of minutes ≡ Some m → m ≤ 1000000000 → (r : ℕ) → r ≡ hour_of h suffix
-        → Ok (r * 3600 + m * 60) ≡ colon_form hours minutes suffix
-    unfolding colon_form
-    both b m f d r g = rw (e, le-leb h 1000000000 b, f, le-leb m 1000000000 d, g)
+    pub both : (m : ℕ) → on_count (count_of minutes) Ok ≡ Ok m → (r : ℕ) → r ≡ hour_of h suffix → Ok (r * 3600 + m * 60) ≡ colon_form hours minutes suffix
+    both m f r g = rw g (sym (hours-taken ∙ taken (count_of minutes) (λ m. Ok (hour_of h suffix * 3600 + m * 60)) m f))

@@ -1,5 +1,6 @@
 -- The unit, and its final S. Assumes nothing.
 use Rattle.std.proofs.Common.{◌≡◌, ℕ, List, [], ◌∷◌, length, refl, arith}
+use Rattle.std.specs.Prelude.{Some}
 use Rattle.leaf_letters.specs.Words.{same}
 use Rattle.leaf_clock.specs.declared.Unit.TheVariants.{Hour}
 use Rattle.leaf_clock.specs.Times.{without_s, unit_words, named, unit_of}
@@ -9,7 +10,7 @@ unfolding without_s same
 no-letters [] h = refl
 no-letters (b ∷ t) h = absurd (omega arith)
 
-pub unit-absent : (u : List ℕ) → length u ≡ 0 → Hour ≡ unit_of u
+pub unit-absent : (u : List ℕ) → length u ≡ 0 → Some Hour ≡ unit_of u
 unfolding unit_of
 unit-absent [] h = refl
 unit-absent (b ∷ t) h = absurd (omega arith)

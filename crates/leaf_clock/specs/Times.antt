@@ -10,7 +10,7 @@ use Rattle.leaf_counts.specs.Counts.{count_of}
 use Rattle.leaf_letters.specs.Words.{spelled}
 use Rattle.leaf_clock.specs.declared.TimeError.TheVariants.{Malformed, Beyond, UnknownUnit}
 use Rattle.leaf_clock.specs.declared.Unit.{Unit}
-use Rattle.leaf_clock.specs.declared.Unit.TheVariants.{Hour, Minute, Second, Day, Am, Pm, Unknown}
+use Rattle.leaf_clock.specs.declared.Unit.TheVariants.{Hour, Minute, Second, Day, Am, Pm}
 use Rattle.leaf_clock.specs.Cut.{cut}
 
 -- the number of the answer
@@ -58,7 +58,7 @@ word_day = 68 ∷ 65 ∷ 89 ∷ []
 abbrev pub word_s : List ℕ
 word_s = 83 ∷ []
 
--- ---- "(Result ℕ TimeError) with a colon: hours and minutes are counts, each at most 1,000,000,000 else 22, hours judged fully before minutes;
+-- ---- "Time with a colon: hours and minutes are counts, each at most 1,000,000,000 else 22, hours judged fully before minutes;
 -- later parts are ignored; minutes may pass 59."
 -- how many bytes stand before the first colon, which is all of them where there is none
 unfoldable pub colon_at : List ℕ → ℕ
@@ -113,47 +113,47 @@ unit_words =
     ∷ (word_pm, Pm)
     ∷ []
 
-unfoldable pub named : List (List ℕ × Unit) → List ℕ → Unit
-named [] unit = Unknown
-named (w ∷ ws) unit = cond (spelled unit w.0) w.1 (named ws unit)
+unfoldable pub named : List (List ℕ × Unit) → List ℕ → Option Unit
+named [] unit = None
+named (w ∷ ws) unit = cond (spelled unit w.0) (Some w.1) (named ws unit)
 
-unfoldable pub unit_of : List ℕ → Unit
+unfoldable pub unit_of : List ℕ → Option Unit
 unfolding without_s named
-unit_of [] = Hour
+unit_of [] = Some Hour
 unit_of (b ∷ t) = named unit_words (without_s (b ∷ t))
 
 -- "HOUR, HOURS x 3600; MINUTE, MIN x 60; SECOND, SEC; DAY x 86,400: one rounded multiplication, then cut to a whole number ..
 -- AM and PM cut first, then as above."
 -- the factor of a unit, 0 where nothing is multiplied
-abbrev pub factor_of : Unit → ℕ
-factor_of Hour = 3600
-factor_of Minute = 60
-factor_of Second = 0
-factor_of Day = 86400
-factor_of Am = 0
-factor_of Pm = 0
-factor_of Unknown = 0
+abbrev pub factor_of : Option Unit → ℕ
+factor_of (Some Hour) = 3600
+factor_of (Some Minute) = 60
+factor_of (Some Second) = 0
+factor_of (Some Day) = 86400
+factor_of (Some Am) = 0
+factor_of (Some Pm) = 0
+factor_of None = 0
 
 abbrev pub times : Float → ℕ → Float
 times x k = mul binary64 x (of_int binary64 (pos k))
 
-unfoldable pub in_unit : Unit → Float → Result ℕ TimeError
-in_unit Hour x = Ok (cut (times x (factor_of Hour)))
-in_unit Minute x = Ok (cut (times x (factor_of Minute)))
-in_unit Second x = Ok (cut x)
-in_unit Day x = Ok (cut (times x (factor_of Day)))
-in_unit Am x = Ok (morning (cut x) * 3600)
-in_unit Pm x = Ok (afternoon (cut x) * 3600)
-in_unit Unknown x = Err UnknownUnit
+unfoldable pub in_unit : Unit → Float → ℕ
+in_unit Hour x = cut (times x 3600)
+in_unit Minute x = cut (times x 60)
+in_unit Second x = cut x
+in_unit Day x = cut (times x 86400)
+in_unit Am x = morning (cut x) * 3600
+in_unit Pm x = afternoon (cut x) * 3600
 
 -- the number is judged before the unit
 abbrev pub time_error : NumberError → TimeError
 time_error number.Malformed = Malformed
 time_error number.Beyond = Beyond
 
-abbrev pub number_form : Result Float NumberError → Unit → Result ℕ TimeError
+abbrev pub number_form : Result Float NumberError → Option Unit → Result ℕ TimeError
 number_form (Err e) unit = Err (time_error e)
-number_form (Ok x) unit = in_unit unit x
+number_form (Ok x) None = Err UnknownUnit
+number_form (Ok x) (Some unit) = Ok (in_unit unit x)
 
 -- ---- a time and its unit or suffix, which is empty where none stands
 unfoldable pub time_of : List ℕ → List ℕ → Result ℕ TimeError

@@ -1,9 +1,10 @@
 // Times: hours and minutes with a colon, or a number with a unit. See specs/Times.antt for the rules.
 #![tactic(auto)]
 
-ghost use Rattle.std.specs.Prelude.{◌≡◌};
+ghost use Rattle.std.specs.Prelude.{◌≡◌, ◌≤◌, Ok, IfOk};
+ghost use Rattle.leaf_counts.specs.Counts.{count_of};
 ghost use Rattle.leaf_clock.specs.Cut.{cut};
-ghost use Rattle.leaf_clock.specs.Times.{colon_at, before_colon, morning, afternoon, hour_of, colon_form, without_s, unit_words, named, unit_of, in_unit, time_error, time_of};
+ghost use Rattle.leaf_clock.specs.Times.{colon_at, before_colon, morning, afternoon, hour_of, on_count, colon_form, without_s, unit_words, named, unit_of, in_unit, time_error, time_of};
 ghost use Rattle.leaf_clock.specs.Products.{ByNearest};
 
 use leaf_decimals::NumberError;
@@ -35,7 +36,6 @@ pub enum Unit {
     Day,
     Am,
     Pm,
-    Unknown,
 }
 
 // ---- a time with a colon
@@ -44,21 +44,13 @@ pub enum Unit {
 fn colon_at(s: &[u8]) -> usize
     ensures { result ≡ colon_at s.now }
 {
-    let mut i = 0;
-    while i < s.len() {
-        if s[i] == b':' {
-            return i;
-        }
-        i += 1;
-    }
-    i
+    s.iter().position(|b| *b == b':').unwrap_or(s.len())
 }
 
 fn before_colon(s: &[u8]) -> &[u8]
     ensures { result.now ≡ before_colon s.now }
 {
-    let at = colon_at(s);
-    &s[..at]
+    &s[..colon_at(s)]
 }
 
 fn morning(h: u64) -> u64
@@ -73,6 +65,7 @@ fn afternoon(h: u64) -> u64
     h % 12 + 12
 }
 
+#[tactic(auto, unfolding(crate::specs::Times::hour_of))]
 fn hour_of(h: u64, suffix: &[u8]) -> u64
     ensures { result ≡ hour_of h suffix.now }
 {
@@ -85,25 +78,24 @@ fn hour_of(h: u64, suffix: &[u8]) -> u64
     h
 }
 
+// Hours, or minutes: a count, and none above a thousand million.
+fn read_part(s: &[u8]) -> Result<u64, TimeError>
+    ensures value { result ≡ on_count (count_of s.now) Ok }
+    ensures most { IfOk result (λ n. n ≤ 1000000000) }
+{
+    let n = leaf_counts::read_count(s).ok_or(TimeError::Malformed)?;
+    if n > 1000000000 {
+        return Err(TimeError::Beyond);
+    }
+    Ok(n)
+}
+
 fn colon_form(hours: &[u8], minutes: &[u8], suffix: &[u8]) -> Result<u64, TimeError>
     ensures { result ≡ colon_form hours.now minutes.now suffix.now }
 {
-    let h = leaf_counts::read_count(hours);
-    let Some(h) = h else {
-        return Err(TimeError::Malformed);
-    };
-    if h > 1000000000 {
-        return Err(TimeError::Beyond);
-    }
-    let m = leaf_counts::read_count(minutes);
-    let Some(m) = m else {
-        return Err(TimeError::Malformed);
-    };
-    if m > 1000000000 {
-        return Err(TimeError::Beyond);
-    }
-    let hour = hour_of(h, suffix);
-    Ok(hour * 3600 + m * 60)
+    let h = read_part(hours)?;
+    let m = read_part(minutes)?;
+    Ok(hour_of(h, suffix) * 3600 + m * 60)
 }
 
 // ---- a number with a unit
@@ -111,58 +103,43 @@ fn colon_form(hours: &[u8], minutes: &[u8], suffix: &[u8]) -> Result<u64, TimeEr
 fn without_s(unit: &[u8]) -> &[u8]
     ensures { result.now ≡ without_s unit.now }
 {
-    let n = unit.len();
-    if n == 0 {
+    if unit.is_empty() || leaf_letters::spells(unit, b"HOURS") {
         return unit;
     }
-    if leaf_letters::spells(unit, b"HOURS") {
-        return unit;
+    let (front, last) = unit.split_at(unit.len() - 1);
+    if leaf_letters::spells(last, b"S") {
+        front
+    } else {
+        unit
     }
-    let last = n - 1;
-    if leaf_letters::spells(&unit[last..], b"S") {
-        return &unit[..last];
-    }
-    unit
 }
 
-fn named(unit: &[u8]) -> Unit
+#[tactic(auto, unfolding(crate::specs::Times::named))]
+fn named(unit: &[u8]) -> Option<Unit>
     ensures { result ≡ named unit_words unit.now }
 {
-    if leaf_letters::spells(unit, b"HOUR") {
-        return Unit::Hour;
+    if leaf_letters::spells(unit, b"HOUR") || leaf_letters::spells(unit, b"HOURS") {
+        Some(Unit::Hour)
+    } else if leaf_letters::spells(unit, b"MINUTE") || leaf_letters::spells(unit, b"MIN") {
+        Some(Unit::Minute)
+    } else if leaf_letters::spells(unit, b"SECOND") || leaf_letters::spells(unit, b"SEC") {
+        Some(Unit::Second)
+    } else if leaf_letters::spells(unit, b"DAY") {
+        Some(Unit::Day)
+    } else if leaf_letters::spells(unit, b"AM") {
+        Some(Unit::Am)
+    } else if leaf_letters::spells(unit, b"PM") {
+        Some(Unit::Pm)
+    } else {
+        None
     }
-    if leaf_letters::spells(unit, b"HOURS") {
-        return Unit::Hour;
-    }
-    if leaf_letters::spells(unit, b"MINUTE") {
-        return Unit::Minute;
-    }
-    if leaf_letters::spells(unit, b"MIN") {
-        return Unit::Minute;
-    }
-    if leaf_letters::spells(unit, b"SECOND") {
-        return Unit::Second;
-    }
-    if leaf_letters::spells(unit, b"SEC") {
-        return Unit::Second;
-    }
-    if leaf_letters::spells(unit, b"DAY") {
-        return Unit::Day;
-    }
-    if leaf_letters::spells(unit, b"AM") {
-        return Unit::Am;
-    }
-    if leaf_letters::spells(unit, b"PM") {
-        return Unit::Pm;
-    }
-    Unit::Unknown
 }
 
-fn unit_of(unit: &[u8]) -> Unit
+fn unit_of(unit: &[u8]) -> Option<Unit>
     ensures { result ≡ unit_of unit.now }
 {
-    if unit.len() == 0 {
-        return Unit::Hour;
+    if unit.is_empty() {
+        return Some(Unit::Hour);
     }
     named(without_s(unit))
 }
@@ -171,28 +148,19 @@ fn unit_of(unit: &[u8]) -> Unit
 fn whole_part(x: f64) -> u64
     ensures { result ≡ cut x }
 {
-    if x > -1.0 {
-        if x < 18446744073709551616.0 {
-            std::num::truncating_f64_to_u64(x)
-        } else {
-            18446744073709551615
-        }
-    } else {
-        0
-    }
+    std::num::saturating_f64_to_u64(x)
 }
 
-fn in_unit(x: f64, unit: Unit) -> Result<u64, TimeError>
+fn in_unit(x: f64, unit: Unit) -> u64
     ensures { result ≡ in_unit unit x }
 {
     match unit {
-        Unit::Hour => Ok(whole_part(x * 3600.0)),
-        Unit::Minute => Ok(whole_part(x * 60.0)),
-        Unit::Second => Ok(whole_part(x)),
-        Unit::Day => Ok(whole_part(x * 86400.0)),
-        Unit::Am => Ok(morning(whole_part(x)) * 3600),
-        Unit::Pm => Ok(afternoon(whole_part(x)) * 3600),
-        Unit::Unknown => Err(TimeError::UnknownUnit),
+        Unit::Hour => whole_part(x * 3600.0),
+        Unit::Minute => whole_part(x * 60.0),
+        Unit::Second => whole_part(x),
+        Unit::Day => whole_part(x * 86400.0),
+        Unit::Am => morning(whole_part(x)) * 3600,
+        Unit::Pm => afternoon(whole_part(x)) * 3600,
     }
 }
 
@@ -208,5 +176,6 @@ pub fn read_time(time: &[u8], unit: &[u8]) -> Result<u64, TimeError>
         return colon_form(&time[..at], before_colon(&time[at + 1..]), unit);
     }
     let x = leaf_decimals::read_number(time)?;
-    in_unit(x, unit_of(unit))
+    let unit = unit_of(unit).ok_or(TimeError::UnknownUnit)?;
+    Ok(in_unit(x, unit))
 }

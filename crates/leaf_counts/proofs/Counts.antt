@@ -63,7 +63,7 @@ whole_from b t = go (is Digit b) refl
   where
     go : (x : Bool) → is Digit b ≡ x → whole (b ∷ t) ≡ from 0 (b ∷ t)
     go true e = rw (digits-yes b t e)
-    go false e = simp (after-no b t e, digits-no b t e)
+    go false e = simp (digits-no b t e)
 
 -- ---- at the place i of s, where the count so far is v
 module _ (s : List ℕ) (i v : ℕ) where
@@ -73,11 +73,18 @@ module _ (s : List ℕ) (i v : ℕ) where
   pub from_more : i < length s → is Digit (get_or s i 0) ≡ true → from v (drop i s) ≡ from (v * 10 + (get_or s i 0 - 48)) (drop (i + 1) s)
   from_more h e = opened h ∙ from-yes v (get_or s i 0) (drop (i + 1) s) e
 
-  pub from-other : i < length s → is Digit (get_or s i 0) ≡ false → from v (drop i s) ≡ None
+  from-other : i < length s → is Digit (get_or s i 0) ≡ false → from v (drop i s) ≡ None
   from-other h e = opened h ∙ from-no v (get_or s i 0) (drop (i + 1) s) e
 
-  pub from-over : i < length s → is Digit (get_or s i 0) ≡ true → 2 ^ 64 ≤ v * 10 + (get_or s i 0 - 48) → from v (drop i s) ≡ None
-  from-over h e k = from_more h e ∙ from_past (v * 10 + (get_or s i 0 - 48)) (drop (i + 1) s) k
+  -- no digit follows, or the count is too great with it
+  pub from-none : i < length s → ((is Digit (get_or s i 0) ≡ true) × (v * 10 + (get_or s i 0 - 48) < 2 ^ 64) → ⊥) → from v (drop i s) ≡ None
+  from-none h n = go (is Digit (get_or s i 0)) refl
+    where
+      go : (x : Bool) → is Digit (get_or s i 0) ≡ x → from v (drop i s) ≡ None
+      go true e =
+          let m : v * 10 + (get_or s i 0 - 48) < 2 ^ 64 → ⊥ = λ k. n (e, k) in
+          from_more h e ∙ from_past (v * 10 + (get_or s i 0 - 48)) (drop (i + 1) s) (omega arith)
+      go false e = from-other h e
 
   pub from_end : length s ≤ i → v < 2 ^ 64 → from v (drop i s) ≡ Some v
   from_end h k = ap (from v) (drop_of_length-le s h) ∙ from-nil v k

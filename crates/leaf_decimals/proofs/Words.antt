@@ -1,14 +1,14 @@
 -- `spells`, one letter at a time. Assumes nothing.
-use mathlib.Core.Path.{◌≡◌, refl, ap, ◌∙◌}
+use mathlib.Core.Path.{◌≡◌, refl, ap}
 use mathlib.Core.Bool.{Bool, true, false, ◌&&◌}
 use mathlib.Core.List.{List, [], ◌∷◌}
-use Prim.Native.Nat.{ℕ, suc, ◌+◌, ◌≤◌, ◌<◌}
-use native.Mathlib.Numerals.{add-one}
+use Prim.Native.Nat.{ℕ, suc, ◌<◌}
 use native.Mathlib.Omega.{arith}
-use lib.ListN.{length, drop, get_or, drop_of_length-le}
-use lib.Seq.{drop-cons}
+use lib.ListN.{length}
 use lib.Dec.{eqb}
-use borrow.Author.Tests.{eq-eqb, ne_eqb, lt-leb}
+use borrow.Author.Tests.{ne_eqb, lt-leb}
+use Rattle.std.proofs.Math.Bool.{and-false}
+use Rattle.std.specs.List.{list_all, zip}
 use Rattle.leaf_digits.specs.declared.Class.TheVariants.{Digit}
 use Rattle.leaf_digits.specs.Bytes.{is, lower}
 use Rattle.leaf_digits.specs.Digits.{digits}
@@ -16,34 +16,20 @@ use Rattle.leaf_decimals.specs.Numbers.{spells}
 use Rattle.leaf_digits.proofs.Classes.{digit-range}
 use Rattle.leaf_digits.proofs.Digits.{digits-no}
 
-and-false : (x y : Bool) → y ≡ false → x && y ≡ false
-and-false true y e = e
-and-false false y e = refl
-
 pub spells-length : (s w : List ℕ) → (length s ≡ length w → ⊥) → spells s w ≡ false
 unfolding spells
 spells-length [] [] n = absurd (n refl)
 spells-length [] (b ∷ t) n = refl
 spells-length (a ∷ s) [] n = refl
-spells-length (a ∷ s) (b ∷ t) n = and-false (eqb (lower a) b) (spells s t) (spells-length s t (λ e. n (ap suc e)))
+spells-length (a ∷ s) (b ∷ t) n = rw (spells-length s t (λ e. n (ap suc e))) (and-false (eqb (lower a) b))
 
-spells-cons : (a b : ℕ) (s t : List ℕ) → spells (a ∷ s) (b ∷ t) ≡ (eqb (lower a) b && spells s t)
+-- what a test of each pair answers, where the two are as long
+pub spells-all : (s w : List ℕ) → length s ≡ length w → list_all (λ p. eqb (lower p.0) p.1) (zip s w) ≡ spells s w
 unfolding spells
-spells-cons a b s t = refl
-
-module _ (s w : List ℕ) (i : ℕ) where
-  opened : i < length s → i < length w → spells (drop i s) (drop i w) ≡ (eqb (lower (get_or s i 0)) (get_or w i 0) && spells (drop (i + 1) s) (drop (i + 1) w))
-  opened h k = rw (drop-cons s i 0 h, drop-cons w i 0 k, spells-cons, add-one)
-
-  pub spells-step : i < length s → i < length w → lower (get_or s i 0) ≡ get_or w i 0 → spells (drop i s) (drop i w) ≡ spells (drop (i + 1) s) (drop (i + 1) w)
-  spells-step h k e = opened h k ∙ ap (λ (x : Bool). x && spells (drop (i + 1) s) (drop (i + 1) w)) (eq-eqb (lower (get_or s i 0)) (get_or w i 0) e)
-
-  pub spells-differ : i < length s → i < length w → (lower (get_or s i 0) ≡ get_or w i 0 → ⊥) → spells (drop i s) (drop i w) ≡ false
-  spells-differ h k e = opened h k ∙ ap (λ (x : Bool). x && spells (drop (i + 1) s) (drop (i + 1) w)) (ne_eqb (lower (get_or s i 0)) (get_or w i 0) e)
-
-  pub spells-end : length s ≤ i → length w ≤ i → spells (drop i s) (drop i w) ≡ true
-  unfolding spells
-  spells-end h k = rw (drop_of_length-le s h, drop_of_length-le w k)
+spells-all [] [] h = refl
+spells-all [] (b ∷ t) h = cc
+spells-all (a ∷ s) [] h = cc
+spells-all (a ∷ s) (b ∷ t) h = ap (λ x. eqb (lower a) b && x) (spells-all s t (cc))
 
 -- a text that begins with a digit is no word that begins with a letter
 digit-differs : (b a : ℕ) → 57 < a → is Digit b ≡ true → eqb (lower b) a ≡ false

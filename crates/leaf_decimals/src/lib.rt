@@ -3,7 +3,6 @@
 
 ghost use Rattle.std.specs.Prelude.{◌≡◌, ◌^◌, ◌<◌, ◌≤◌, min};
 ghost use Rattle.leaf_digits.specs.Cap.{cap};
-ghost use Rattle.leaf_decimals.specs.Nearest.{gap};
 ghost use Rattle.leaf_decimals.specs.Reach.{ten, signed, meaning};
 ghost use Rattle.leaf_decimals.specs.Numbers.{spells, power, exponent, ending, point, unsigned, outcome, number_of, reading_of, AsRead};
 ghost use Rattle.leaf_decimals.specs.Begun.{Begins};
@@ -56,13 +55,6 @@ fn with_sign(minus: bool, x: f64) -> f64
     if minus { -x } else { x }
 }
 
-// How far apart a and b are.
-fn gap(a: usize, b: usize) -> usize
-    ensures { result ≡ gap a b }
-{
-    if a <= b { b - a } else { a - b }
-}
-
 // ±w * 10^up / 10^down. Both w and the power of ten are doubles exactly, so the one operation rounds right.
 fn valued(minus: bool, w: u64, up: usize, down: usize) -> Result<f64, NumberError>
     ensures { result ≡ meaning minus w up down }
@@ -74,7 +66,7 @@ fn valued(minus: bool, w: u64, up: usize, down: usize) -> Result<f64, NumberErro
     if w > 9007199254740992 {
         return Err(NumberError::Beyond);
     }
-    let k = gap(up, down);
+    let k = up.abs_diff(down);
     if k > 22 {
         return Err(NumberError::Beyond);
     }
@@ -89,21 +81,11 @@ fn valued(minus: bool, w: u64, up: usize, down: usize) -> Result<f64, NumberErro
 
 // ---- the words inf, infinity and nan
 
-// Whether s is the word w, in any case of its letters.
+// Whether s is the word w, in any case of its letters: `leaf_letters::spells` is of words in capitals.
 fn is_word(s: &[u8], w: &[u8]) -> bool
     ensures { result ≡ spells s.now w.now }
 {
-    if s.len() != w.len() {
-        return false;
-    }
-    let mut i = 0;
-    while i < s.len() {
-        if leaf_digits::lowered(s[i]) != w[i] {
-            return false;
-        }
-        i += 1;
-    }
-    true
+    s.len() == w.len() && s.iter().zip(w).all(|(a, b)| leaf_digits::lowered(*a) == *b)
 }
 
 // ---- a number, part by part: each function reads what is left, as the definition of the same part
@@ -117,18 +99,11 @@ fn read_power(minus: bool, w: u64, frac: usize, back: bool, s: &[u8]) -> Result<
     let d = leaf_digits::leading(s, 0);
     let n = d.len;
     let x = d.value as usize;
-    if n == 0 {
-        return Err(NumberError::Malformed);
-    }
-    if n < s.len() {
+    if n == 0 || n < s.len() {
         return Err(NumberError::Malformed);
     }
     if back {
-        if x > 22 {
-            valued(minus, w, 0, frac + 23)
-        } else {
-            valued(minus, w, 0, frac + x)
-        }
+        valued(minus, w, 0, frac + x.min(23))
     } else {
         valued(minus, w, x, frac)
     }
@@ -139,12 +114,11 @@ fn read_exponent(minus: bool, w: u64, frac: usize, s: &[u8]) -> Result<f64, Numb
     requires { frac < 2 ^ 63 }
     ensures { result ≡ outcome (exponent minus w frac s.now) }
 {
-    if s.len() == 0 {
+    let [b, rest @ ..] = s else {
         return Err(NumberError::Malformed);
-    }
-    let b = s[0];
-    match leaf_digits::class_of(b) {
-        Class::Sign => read_power(minus, w, frac, b == b'-', &s[1..]),
+    };
+    match leaf_digits::class_of(*b) {
+        Class::Sign => read_power(minus, w, frac, *b == b'-', rest),
         _ => read_power(minus, w, frac, false, s),
     }
 }
@@ -157,12 +131,11 @@ fn read_ending(minus: bool, w: u64, count: usize, frac: usize, s: &[u8]) -> Resu
     if count == 0 {
         return Err(NumberError::Malformed);
     }
-    if s.len() == 0 {
+    let [b, rest @ ..] = s else {
         return valued(minus, w, 0, frac);
-    }
-    let b = s[0];
-    match leaf_digits::class_of(b) {
-        Class::Exponent => read_exponent(minus, w, frac, &s[1..]),
+    };
+    match leaf_digits::class_of(*b) {
+        Class::Exponent => read_exponent(minus, w, frac, rest),
         _ => Err(NumberError::Malformed),
     }
 }
@@ -172,26 +145,18 @@ fn read_point(minus: bool, w: u64, count: usize, s: &[u8]) -> Result<f64, Number
     requires { (w ≤ cap) × (count < 2 ^ 63) }
     ensures { result ≡ outcome (point minus w count s.now) }
 {
-    if s.len() == 0 {
-        if count == 0 {
-            return Err(NumberError::Malformed);
-        }
-        return valued(minus, w, 0, 0);
-    }
-    let b = s[0];
-    match leaf_digits::class_of(b) {
+    let [b, rest @ ..] = s else {
+        return read_ending(minus, w, count, 0, s);
+    };
+    match leaf_digits::class_of(*b) {
         Class::Point => {
-            let t = &s[1..];
-            let d = leaf_digits::leading(t, w);
+            let d = leaf_digits::leading(rest, w);
             let n = d.len;
-            let v = d.value;
             // Digits, a point, digits and the end, as most numbers are written.
-            if n > 0 {
-                if n == t.len() {
-                    return valued(minus, v, 0, n);
-                }
+            if n > 0 && n == rest.len() {
+                return valued(minus, d.value, 0, n);
             }
-            read_ending(minus, v, count + n, n, &t[n..])
+            read_ending(minus, d.value, count + n, n, &rest[n..])
         }
         _ => read_ending(minus, w, count, 0, s),
     }
@@ -203,7 +168,6 @@ fn read_unsigned(minus: bool, s: &[u8]) -> Result<f64, NumberError>
 {
     let d = leaf_digits::leading(s, 0);
     let n = d.len;
-    let v = d.value;
     // A text that begins with a digit is none of the three words.
     if n == 0 {
         if is_word(s, b"inf") {
@@ -216,59 +180,49 @@ fn read_unsigned(minus: bool, s: &[u8]) -> Result<f64, NumberError>
             return Ok(0.0 / 0.0);
         }
     }
-    read_point(minus, v, n, &s[n..])
+    read_point(minus, d.value, n, &s[n..])
 }
 
 pub fn read_number(s: &[u8]) -> Result<f64, NumberError>
     ensures value { result ≡ number_of s.now }
     ensures nearest { AsRead (reading_of s.now) result }
 {
-    if s.len() == 0 {
+    let [b, rest @ ..] = s else {
         return Err(NumberError::Malformed);
-    }
-    let b = s[0];
-    match leaf_digits::class_of(b) {
-        Class::Sign => read_unsigned(b == b'-', &s[1..]),
+    };
+    match leaf_digits::class_of(*b) {
+        Class::Sign => read_unsigned(*b == b'-', rest),
         _ => read_unsigned(false, s),
     }
 }
 
 // ---- a plain number, as most are written: digits, or digits, a point and digits, and then whitespace or the text's end
 
-// How far a plain number may reach: 19 digits stay below 2^64.
-fn places(len: usize) -> usize
-    ensures { result ≡ min len 19 }
-{
-    if len < 19 { len } else { 19 }
-}
-
 // The number that a text begins with, read while it is scanned.
 pub fn plain_number(s: &[u8]) -> Option<(Result<f64, NumberError>, usize)>
     ensures { Begins s.now result }
 {
-    let to = places(s.len());
+    // 19 digits stay below 2^64.
+    let to = s.len().min(19);
     let d = leaf_digits::few_digits(s, 0, to, 0);
     let n = d.end;
-    let v = d.value;
     if n == 0 {
         return None;
     }
     if leaf_digits::ends_at(s, n) {
-        return Some((valued(false, v, 0, 0), n));
+        return Some((valued(false, d.value, 0, 0), n));
     }
-    let k = leaf_digits::class_of(s[n]);
-    let Class::Point = k else {
+    let Class::Point = leaf_digits::class_of(s[n]) else {
         return None;
     };
     let i = n + 1;
-    let f = leaf_digits::few_digits(s, i, to, v);
+    let f = leaf_digits::few_digits(s, i, to, d.value);
     let e = f.end;
-    let w = f.value;
     if e == i {
         return None;
     }
     if leaf_digits::ends_at(s, e) {
-        return Some((valued(false, w, 0, e - i), e));
+        return Some((valued(false, f.value, 0, e - i), e));
     }
     None
 }

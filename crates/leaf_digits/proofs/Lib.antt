@@ -1,6 +1,5 @@
 -- What the proofs of several functions use, here and in the crates that link this one.
 pub mod Lists
-pub mod Bytes
 pub mod Classes
 pub mod Digits
 pub mod Ends

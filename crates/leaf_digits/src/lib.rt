@@ -11,7 +11,7 @@ ghost use Rattle.leaf_digits.specs.Runs.{Room, Scanned};
 
 // ---- a byte
 
-#[derive(Clone, Copy)]
+#[derive(Clone, Copy, PartialEq, Eq, Debug)]
 pub enum Class {
     Space,
     Digit,
@@ -21,6 +21,7 @@ pub enum Class {
     Other,
 }
 
+#[tactic(auto, unfolding(crate::specs::Bytes::class_of))]
 pub fn class_of(b: u8) -> Class
     ensures { result ≡ class_of b }
 {
@@ -35,19 +36,11 @@ pub fn class_of(b: u8) -> Class
 }
 
 // Whether b is a digit. Most bytes of a number are, and the two comparisons are all that one costs: behind them the compiler drops the match.
+#[tactic(auto, using(crate::proofs::Classes::no_digit))]
 pub fn is_digit(b: u8) -> bool
     ensures { result ≡ is Class.Digit b }
 {
-    if b < b'0' {
-        return false;
-    }
-    if b > b'9' {
-        return false;
-    }
-    match class_of(b) {
-        Class::Digit => true,
-        _ => false,
-    }
+    b'0' <= b && b <= b'9' && matches!(class_of(b), Class::Digit)
 }
 
 // What a digit counts. The byte less that of 0 is what `is_digit` compares, so that the compiler has it already.
@@ -55,7 +48,7 @@ pub fn digit_value(b: u8) -> u64
     requires { (48 ≤ b) × (b ≤ 57) }
     ensures { result ≡ b - 48 }
 {
-    (b - b'0') as u64
+    u64::from(b - b'0')
 }
 
 // A letter in lower case.
@@ -74,31 +67,23 @@ pub fn lowered(b: u8) -> u8
 pub fn ends_at(s: &[u8], i: usize) -> bool
     ensures { result ≡ ended (drop i s.now) }
 {
-    if i < s.len() {
-        let b = s[i];
-        if b' ' < b {
-            return false;
-        }
-        return match class_of(b) {
-            Class::Space => true,
-            _ => false,
-        };
-    }
-    true
+    let Some(b) = s.get(i) else {
+        return true;
+    };
+    *b <= b' ' && matches!(class_of(*b), Class::Space)
 }
 
 // ---- digits in a row
+
+// A multiple of 10 that fits, far past what any caller asks of a number.
+const CAP: u64 = 18446744073709551610;
 
 // v with one digit more, up to a number past which it no longer matters.
 fn extended(v: u64, b: u8) -> u64
     requires { (48 ≤ b) × (b ≤ 57) }
     ensures { result ≡ min (v * 10 + (b - 48)) cap }
 {
-    if v < 1844674407370955161 {
-        v * 10 + digit_value(b)
-    } else {
-        18446744073709551610
-    }
+    v.saturating_mul(10).saturating_add(digit_value(b)).min(CAP)
 }
 
 // The digits that a text begins with: how many they are, and the number that they are, with the
@@ -113,18 +98,17 @@ pub fn leading(s: &[u8], start: u64) -> Run
     requires { start ≤ cap }
     ensures { (result.len ≡ length (digits s.now)) × (result.value ≡ min (value start (digits s.now)) cap) }
 {
-    let mut i = 0;
     let mut v = start;
-    while i < s.len() {
-        let b = s[i];
-        if is_digit(b) {
-            v = extended(v, b);
-        } else {
+    for (i, b) in s.iter().enumerate() {
+        if !is_digit(*b) {
             return Run { len: i, value: v };
         }
-        i += 1;
+        v = extended(v, *b);
     }
-    Run { len: i, value: v }
+    Run {
+        len: s.len(),
+        value: v,
+    }
 }
 
 // Where digits end, and the number that they are, with the digits of `start` before them.
@@ -134,21 +118,21 @@ pub struct Few {
     pub value: u64,
 }
 
-// The digits from `from` on, none of them past `to`: so few that no sum overflows.
+// The digits from `from` on, none of them past `to`: so few that no sum overflows, and no digit is tested against a cap as in `leading`.
 pub fn few_digits(s: &[u8], from: usize, to: usize, start: u64) -> Few
     requires { (from ≤ length s.now) × (to ≤ length s.now) × Room start from to }
     ensures { Scanned s.now from start result.end result.value × Room result.value result.end to }
 {
-    let mut i = from;
     let mut v = start;
-    while i < to {
+    for i in from..to {
         let b = s[i];
-        if is_digit(b) {
-            v = v * 10 + digit_value(b);
-        } else {
+        if !is_digit(b) {
             return Few { end: i, value: v };
         }
-        i += 1;
+        v = v * 10 + digit_value(b);
     }
-    Few { end: i, value: v }
+    Few {
+        end: from.max(to),
+        value: v,
+    }
 }

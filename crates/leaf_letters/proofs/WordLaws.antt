@@ -1,68 +1,48 @@
 -- Texts that are compared byte by byte. Assumes nothing.
-use Prim.Native.Nat.{ℕ, suc, ◌≤◌, ◌<◌}
-use borrow.Author.Tests.{eq-eqb, ne_eqb, eqb-true}
-use mathlib.Core.Path.{◌≡◌, refl, sym, ap, ap₂, ◌∙◌}
+use Prim.Native.Nat.{ℕ, suc}
+use Rattle.std.proofs.Math.Bool.{and-false}
+use Rattle.std.proofs.lemmas.Bool.{false≢true}
+use Rattle.std.proofs.lemmas.Bool.Decides.{same_from_decides}
+use Rattle.std.proofs.lemmas.Slice.Eq.{bytes_eq-Decides, compares_Decides}
+use Rattle.std.specs.Cmp.Lexicographic.{pointwise}
+use Rattle.std.specs.List.{list_all, zip}
+use mathlib.Core.Path.{◌≡◌, refl, sym, ap, ◌∙◌}
 use mathlib.Core.Logic.{◌↔◌}
-use mathlib.Core.Bool.{Bool, true, false, ◌&&◌, false≢true}
+use mathlib.Core.Bool.{true, false, ◌&&◌}
 use mathlib.Core.List.{List, [], ◌∷◌, map}
-use lib.ListN.{length, drop, get_or, drop_of_length-le}
-use lib.Seq.{drop-cons}
+use lib.ListN.{length}
 use lib.Dec.{eqb}
 use Rattle.leaf_letters.specs.Words.{same}
 
-and-false : (t : Bool) → (t && false) ≡ false
-and-false true = refl
-and-false false = refl
-
-module _ (f : ℕ → ℕ) where
-  pub same-long : (a b : List ℕ) → (length a ≡ length b → ⊥) → same (map f a) b ≡ false
-  unfolding same
-  same-long [] [] h = absurd (h refl)
-  same-long [] (y ∷ ys) h = refl
-  same-long (x ∷ xs) [] h = refl
-  same-long (x ∷ xs) (y ∷ ys) h = rw (same-long xs ys (λ e. h (ap suc e))) (and-false (eqb (f x) y))
-
-  same_at : (a b : List ℕ) (i : ℕ) → i < length a → i < length b
-      → same (map f (drop i a)) (drop i b) ≡ (eqb (f (get_or a i 0)) (get_or b i 0) && same (map f (drop (suc i) a)) (drop (suc i) b))
-  unfolding same
-  same_at a b i h k = rw (drop-cons a i 0 h, drop-cons b i 0 k)
-
-  -- at an index where they agree, the rest decides; where they differ, they are not the same; past the end they are the same
-  pub same_more : (a b : List ℕ) (i : ℕ) → i < length a → i < length b → f (get_or a i 0) ≡ get_or b i 0
-      → same (map f (drop i a)) (drop i b) ≡ same (map f (drop (suc i) a)) (drop (suc i) b)
-  same_more a b i h k e = same_at a b i h k ∙ rw (eq-eqb (f (get_or a i 0)) (get_or b i 0) e)
-
-  pub same_not : (a b : List ℕ) (i : ℕ) → i < length a → i < length b → (f (get_or a i 0) ≡ get_or b i 0 → ⊥)
-      → same (map f (drop i a)) (drop i b) ≡ false
-  same_not a b i h k e = same_at a b i h k ∙ rw (ne_eqb (f (get_or a i 0)) (get_or b i 0) e)
-
-  pub same_end : (a b : List ℕ) (i : ℕ) → length a ≤ i → length b ≤ i → same (map f (drop i a)) (drop i b) ≡ true
-  unfolding same
-  same_end a b i h k = rw (drop_of_length-le a h, drop_of_length-le b k)
-
-pub map-id : (a : List ℕ) → map (λ x. x) a ≡ a
-map-id [] = refl
-map-id (x ∷ a) = ap (λ (l : List ℕ). x ∷ l) (map-id a)
-
 -- two texts are the same exactly where they are equal
-pub same_refl : (a : List ℕ) → same a a ≡ true
+pub same-iff : (a b : List ℕ) → (same a b ≡ true) ↔ (a ≡ b)
 unfolding same
-same_refl [] = refl
-same_refl (x ∷ a) = rw (eq-eqb x x refl, same_refl a)
+same-iff = compares_Decides same (record { empty = refl; shorter = λ _ _. refl; longer = λ _ _. refl; heads = λ _ _ _ _. refl })
 
 pub same-equal : (a b : List ℕ) → same a b ≡ true → a ≡ b
-unfolding same
-same-equal [] [] e = refl
-same-equal [] (y ∷ b) e = absurd (false≢true e)
-same-equal (x ∷ a) [] e = absurd (false≢true e)
-same-equal (x ∷ a) (y ∷ b) e = go (eqb x y) refl (same-equal a b) e
-  where
-    go : (t : Bool) → eqb x y ≡ t → (same a b ≡ true → a ≡ b) → (t && same a b) ≡ true → (x ∷ a) ≡ (y ∷ b)
-    go true h f k = ap₂ ◌∷◌ (eqb-true x y h) (f k)
-    go false h f k = absurd (false≢true k)
-
-pub same-iff : (a b : List ℕ) → (same a b ≡ true) ↔ (a ≡ b)
-same-iff a b = (same-equal a b, λ e. ap (same a) (sym e) ∙ same_refl a)
+same-equal a b = (same-iff a b).0
 
 pub differ : (a b : List ℕ) → same a b ≡ false → a ≡ b → ⊥
 differ a b h e = false≢true (sym h ∙ (same-iff a b).1 e)
+
+-- what `==` of two slices answers, and `starts_with`, which compares the word with the text
+pub same-pointwise : (a b : List ℕ) → pointwise eqb a b ≡ same a b
+same-pointwise a b = same_from_decides _ _ (bytes_eq-Decides a b) (same-iff a b)
+
+pub same-turned : (a b : List ℕ) → pointwise eqb b a ≡ same a b
+same-turned a b = let d = bytes_eq-Decides b a in same_from_decides _ _ (λ e. sym (d.0 e), λ e. d.1 (sym e)) (same-iff a b)
+
+-- what a test of each pair answers, where the two are as long; where they are not, they are not the same
+pub same-all : (f : ℕ → ℕ) (a b : List ℕ) → length a ≡ length b → list_all (λ p. eqb (f p.0) p.1) (zip a b) ≡ same (map f a) b
+unfolding same
+same-all f [] [] h = refl
+same-all f [] (y ∷ b) h = cc
+same-all f (x ∷ a) [] h = cc
+same-all f (x ∷ a) (y ∷ b) h = ap (λ t. eqb (f x) y && t) (same-all f a b (cc))
+
+pub same-long : (f : ℕ → ℕ) (a b : List ℕ) → (length a ≡ length b → ⊥) → same (map f a) b ≡ false
+unfolding same
+same-long f [] [] h = absurd (h refl)
+same-long f [] (y ∷ b) h = refl
+same-long f (x ∷ a) [] h = refl
+same-long f (x ∷ a) (y ∷ b) h = rw (same-long f a b (λ e. h (ap suc e))) (and-false (eqb (f x) y))

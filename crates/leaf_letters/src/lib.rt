@@ -8,32 +8,15 @@ ghost use Rattle.leaf_letters.specs.Words.{same, raised, spelled, begins};
 pub fn cut(text: &[u8], at: usize, n: usize) -> &[u8]
     ensures { result.now ≡ take n (drop at text.now) }
 {
-    let len = text.len();
-    if len < at {
-        return &text[len..];
-    }
-    if len - at < n {
-        return &text[at..];
-    }
-    let e = at + n;
-    &text[at..e]
+    let rest = &text[at.min(text.len())..];
+    &rest[..n.min(rest.len())]
 }
 
 // Whether two texts are the same.
 pub fn equal(a: &[u8], b: &[u8]) -> bool
     ensures { result ≡ same a.now b.now }
 {
-    if a.len() != b.len() {
-        return false;
-    }
-    let mut i = 0;
-    while i < a.len() {
-        if a[i] != b[i] {
-            return false;
-        }
-        i += 1;
-    }
-    true
+    a == b
 }
 
 // A letter a to z raised.
@@ -50,22 +33,12 @@ fn raise(b: u8) -> u8
 pub fn spells(a: &[u8], w: &[u8]) -> bool
     ensures { result ≡ spelled a.now w.now }
 {
-    if a.len() != w.len() {
-        return false;
-    }
-    let mut i = 0;
-    while i < a.len() {
-        if raise(a[i]) != w[i] {
-            return false;
-        }
-        i += 1;
-    }
-    true
+    a.len() == w.len() && a.iter().zip(w).all(|(x, y)| raise(*x) == *y)
 }
 
 // Whether a text begins with the word.
 pub fn starts_with(a: &[u8], w: &[u8]) -> bool
     ensures { result ≡ begins a.now w.now }
 {
-    equal(cut(a, 0, w.len()), w)
+    a.starts_with(w)
 }

@@ -1,12 +1,13 @@
 -- Where lines end, and what is left of them. Assumes nothing.
-use Prim.Native.Nat.{ℕ, zero, suc, ◌+◌, ◌-◌, ◌≤◌, ◌<◌}
+use Prim.Native.Nat.{ℕ, suc, ◌+◌, ◌-◌, ◌≤◌, ◌<◌}
 use native.Mathlib.Omega.{arith}
 use mathlib.Core.Path.{◌≡◌, refl, sym, ap, ◌∙◌}
 use mathlib.Core.Bool.{Bool, true, false, cond, ◌||◌}
 use mathlib.Core.List.{List, [], ◌∷◌, ◌++◌}
 use lib.ListN.{length, take, drop, get_or, length-drop, drop_of_length-le}
-use lib.Seq.{drop-cons, drop-drop, length-take-le, take_all, take-suc, get_or-drop}
+use lib.Seq.{take-length, drop-cons, drop-drop, length-take-le, take-suc, get_or-drop}
 use lib.Dec.{eqb}
+use Rattle.leaf_digits.proofs.Lists.{tail_of}
 use Rattle.leaf_scans.specs.Lines.{blank, is_space, push, chunks, joined, line_len, start_trimmed, keep_byte, end_trimmed, trimmed, kind_by, line_kind, cut_of}
 use Rattle.leaf_scans.specs.Scan.{span_len}
 use Rattle.leaf_words.specs.Scan.{clear_len}
@@ -133,20 +134,6 @@ pub trimmed-start : (l : List ℕ) → trimmed (start_trimmed l) ≡ trimmed l
 unfolding trimmed
 trimmed-start l = ap end_trimmed (start-again l)
 
-keep-prefix : (b : ℕ) (bs xs : List ℕ) → take (length xs) bs ≡ xs → take (length (keep_byte b xs)) (b ∷ bs) ≡ keep_byte b xs
-keep-prefix b bs [] e = go (is_space b)
-  where
-    go : (t : Bool) → take (length (cond t [] (b ∷ []))) (b ∷ bs) ≡ cond t [] (b ∷ [])
-    go true = refl
-    go false = refl
-keep-prefix b bs (x ∷ xs) e = ap (b ∷◌) e
-
--- what is left stands at the start
-pub end-prefix : (l : List ℕ) → take (length (end_trimmed l)) l ≡ end_trimmed l
-unfolding end_trimmed
-end-prefix [] = refl
-end-prefix (b ∷ bs) = keep-prefix b bs (end_trimmed bs) (end-prefix bs)
-
 trim-space : (l : List ℕ) (b : ℕ) → is_space b ≡ true → end_trimmed (l ++ (b ∷ [])) ≡ end_trimmed l
 unfolding end_trimmed
 trim-space [] b e = rw e
@@ -158,31 +145,27 @@ trim-word [] b e = rw e
 trim-word (x ∷ []) b e = rw e
 trim-word (x ∷ y ∷ l) b e = ap (keep_byte x) (trim-word (y ∷ l) b e)
 
--- the bytes before e, from their last byte back
-module _ (l : List ℕ) (e : ℕ) (h : 0 < e) (k : e ≤ length l) where
-  last_byte : take e l ≡ take (e - 1) l ++ (get_or l (e - 1) 0 ∷ [])
-  last_byte = let z : e ≡ suc (e - 1) = omega arith in ap (λ i. take i l) z ∙ take-suc l (e - 1) 0 (omega arith)
+-- the last byte taken off, or kept
+module _ (l : List ℕ) (h : 1 ≤ length l) where
+  last_byte : l ≡ take (length l - 1) l ++ (get_or l (length l - 1) 0 ∷ [])
+  last_byte = let z : length l ≡ suc (length l - 1) = omega arith in sym (take-length l) ∙ ap (λ i. take i l) z ∙ take-suc l (length l - 1) 0 (omega arith)
 
-  pub trim-more : is_space (get_or l (e - 1) 0) ≡ true → end_trimmed (take (e - 1) l) ≡ end_trimmed (take e l)
-  trim-more s = sym (ap end_trimmed last_byte ∙ trim-space (take (e - 1) l) (get_or l (e - 1) 0) s)
+  pub trim-more : is_space (get_or l (length l - 1) 0) ≡ true → end_trimmed (take (length l - 1) l) ≡ end_trimmed l
+  trim-more s = sym (ap end_trimmed last_byte ∙ trim-space (take (length l - 1) l) (get_or l (length l - 1) 0) s)
 
-  pub trim-stop : is_space (get_or l (e - 1) 0) ≡ false → e ≡ length (end_trimmed (take e l))
-  trim-stop s =
-      let q : end_trimmed (take e l) ≡ take e l = rw last_byte (trim-word (take (e - 1) l) (get_or l (e - 1) 0) s) in
-      omega (arith, ap length q, length-take-le e l k)
+  pub trim-stop : is_space (get_or l (length l - 1) 0) ≡ false → l ≡ end_trimmed l
+  trim-stop s = last_byte ∙ sym (trim-word (take (length l - 1) l) (get_or l (length l - 1) 0) s) ∙ ap end_trimmed (sym last_byte)
 
-pub trim-nothing : (l : List ℕ) (e : ℕ) → e ≤ 0 → e ≡ length (end_trimmed (take e l))
+pub trim-nothing : (l : List ℕ) → length l < 1 → l ≡ end_trimmed l
 unfolding end_trimmed
-trim-nothing l zero h = refl
-trim-nothing l (suc e) h = absurd (omega arith)
+trim-nothing [] h = refl
+trim-nothing (b ∷ l) h = absurd (omega arith)
 
-pub trim-cut : (l d r : List ℕ) (a e : ℕ) → a ≡ 0 + span_len Space l → d ≡ take (length l) (drop a l) → e ≡ length (end_trimmed d) → r ≡ take e d → r ≡ trimmed l
+pub trim-from : (l : List ℕ) (a : ℕ) → a ≡ 0 + span_len Space l → end_trimmed (take (length l - a) (drop a l)) ≡ trimmed l
 unfolding trimmed
-trim-cut l d r a e ha hd he hr =
+trim-from l a e =
     let k : a ≡ span_len Space l = omega arith in
-    let z : length (drop a l) ≡ length l - a = length-drop a l in
-    let w : d ≡ start_trimmed l = hd ∙ take_all (length l) (drop a l) (omega arith) ∙ ap (λ i. drop i l) k ∙ start-span l in
-    hr ∙ ap (λ i. take i d) he ∙ end-prefix d ∙ ap end_trimmed w
+    ap end_trimmed (tail_of l a ∙ ap (λ i. drop i l) k ∙ start-span l)
 
 -- ---- what a line is
 kind-kept : (b : ℕ) (xs : List ℕ) → is_space b ≡ false → kind_by (b ∷ []) ≡ kind_by (keep_byte b xs)

@@ -15,11 +15,7 @@ use leaf_digits::Class;
 pub fn is_space(b: u8) -> bool
     ensures { result ≡ is_space b }
 {
-    if b' ' < b {
-        return false;
-    }
-    let k = leaf_digits::class_of(b);
-    if let Class::Space = k { true } else { false }
+    b <= b' ' && matches!(leaf_digits::class_of(b), Class::Space)
 }
 
 // What the scan below passes over: whitespace; a field.
@@ -38,20 +34,16 @@ fn is_kind(k: Kind, b: u8) -> bool
     }
 }
 
-// Where the bytes of the kind end, from `at` on.
+// Where the bytes of the kind end, from `at` on. It takes a kind and no closure: `span_len`, which the laws of fields and lines cite, is of kinds.
 pub fn reach(l: &[u8], at: usize, k: Kind) -> usize
     ensures { result ≡ at + span_len k (drop at l.now) }
 {
-    let mut i = at;
-    while i < l.len() {
-        let ok = is_kind(k, l[i]);
-        if ok {
-            i += 1;
-        } else {
+    for i in at..l.len() {
+        if !is_kind(k, l[i]) {
             return i;
         }
     }
-    i
+    at.max(l.len())
 }
 
 // ---- lines
@@ -61,10 +53,7 @@ pub fn line_end(text: &[u8], at: usize) -> usize
     ensures { result ≡ at + line_len (drop at text.now) }
 {
     let e = leaf_words::find_either(text, at, b'\n', b'\n');
-    if e < text.len() {
-        return e + 1;
-    }
-    e
+    if e < text.len() { e + 1 } else { e }
 }
 
 // Where the line from `at` on stops: at its first `;` or line feed, or where the text ends.
@@ -85,18 +74,20 @@ fn ends_from(text: &[u8], stop: usize) -> Ends
     ensures { (at : ℕ) → stop ≡ at + clear_len 59 10 (drop at text.now)
         → (result.end ≡ at + line_len (drop at text.now)) × (result.cut ≡ at + length (cut_of (drop at (take result.end text.now)))) }
 {
-    if text.len() <= stop {
-        return Ends {
+    match text.get(stop) {
+        None => Ends {
             cut: stop,
             end: stop,
-        };
+        },
+        Some(b'\n') => Ends {
+            cut: stop + 1,
+            end: stop + 1,
+        },
+        Some(_) => {
+            let end = line_end(text, stop);
+            Ends { cut: stop, end }
+        }
     }
-    if text[stop] == b'\n' {
-        let e = stop + 1;
-        return Ends { cut: e, end: e };
-    }
-    let e = line_end(text, stop);
-    Ends { cut: stop, end: e }
 }
 
 // Where the line at `at` is cut, and where it ends.
@@ -106,27 +97,23 @@ pub fn line_ends(text: &[u8], at: usize) -> Ends
     ends_from(text, line_stop(text, at))
 }
 
-// Where the last byte that is no whitespace ends.
-fn trim_end(l: &[u8]) -> usize
-    ensures { result ≡ length (end_trimmed l.now) }
+// A text without the whitespace at its end.
+fn trim_end(l: &[u8]) -> &[u8]
+    ensures { result.now ≡ end_trimmed l.now }
 {
-    let mut e = l.len();
-    while 0 < e {
-        if is_space(l[e - 1]) {
-            e -= 1;
-        } else {
-            return e;
+    let mut rest = l;
+    while let [front @ .., last] = rest {
+        if !is_space(*last) {
+            return rest;
         }
+        rest = front;
     }
-    e
+    rest
 }
 
 // A line without the whitespace at its ends.
 pub fn trimmed(l: &[u8]) -> &[u8]
     ensures { result.now ≡ trimmed l.now }
 {
-    let a = reach(l, 0, Kind::Space);
-    let d = leaf_letters::cut(l, a, l.len());
-    let e = trim_end(d);
-    leaf_letters::cut(d, 0, e)
+    trim_end(&l[reach(l, 0, Kind::Space)..])
 }

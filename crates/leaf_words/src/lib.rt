@@ -30,7 +30,7 @@ const HIGH: u64 = 0x8080_8080_8080_8080;
 fn eight(b: u8) -> u64
     ensures { result ≡ b * 0x0101_0101_0101_0101 }
 {
-    (b as u64) * ONES
+    u64::from(b) * ONES
 }
 
 // The lowest mark stands in the first byte that is a or b, and there is none where no byte is. Where a byte is a, x has a zero: one taken
@@ -42,12 +42,12 @@ fn hits(block: &[u8], a: u8, b: u8) -> u64
 {
     let w = word_of(block);
     let x = w ^ eight(a);
-    let s = std::num::wrapping_sub_u64(x, ONES) & !x;
+    let s = x.wrapping_sub(ONES) & !x;
     if a == b {
         return s & HIGH;
     }
     let y = w ^ eight(b);
-    let t = std::num::wrapping_sub_u64(y, ONES) & !y;
+    let t = y.wrapping_sub(ONES) & !y;
     (s | t) & HIGH
 }
 
@@ -55,20 +55,15 @@ fn hits(block: &[u8], a: u8, b: u8) -> u64
 fn find_near(text: &[u8], from: usize, a: u8, b: u8) -> usize
     ensures { result ≡ from + clear_len a b (drop from text.now) }
 {
-    let mut i = from;
-    while i < text.len() {
-        if text[i] == a {
+    for i in from..text.len() {
+        if text[i] == a || text[i] == b {
             return i;
         }
-        if text[i] == b {
-            return i;
-        }
-        i += 1;
     }
-    i
+    from.max(text.len())
 }
 
-// The same, eight bytes at a time, and twice that in each turn.
+// The same, eight bytes at a time, and twice that in each turn: docs/SPEED.md says what that is worth, and an iterator over blocks of eight has one in each.
 pub fn find_either(text: &[u8], from: usize, a: u8, b: u8) -> usize
     ensures { result ≡ from + clear_len a b (drop from text.now) }
 {
@@ -81,12 +76,12 @@ pub fn find_either(text: &[u8], from: usize, a: u8, b: u8) -> usize
         let m = i + 8;
         let h = hits(&text[i..m], a, b);
         if h != 0 {
-            return i + (u64::trailing_zeros(h) / 8) as usize;
+            return i + (h.trailing_zeros() / 8) as usize;
         }
         let e = m + 8;
         let k = hits(&text[m..e], a, b);
         if k != 0 {
-            return m + (u64::trailing_zeros(k) / 8) as usize;
+            return m + (k.trailing_zeros() / 8) as usize;
         }
         i = e;
     }

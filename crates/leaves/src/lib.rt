@@ -16,19 +16,11 @@ pub extern "C" fn leaf_number(s: &[u8], out: &mut f64) -> u64
     ensures value { out.new ≡ value_in (number_of s.now) }
 {
     let n = leaf_decimals::read_number(s);
+    *out = n.unwrap_or(0.0);
     match n {
-        Ok(x) => {
-            *out = x;
-            0
-        }
-        Err(NumberError::Malformed) => {
-            *out = 0.0;
-            2
-        }
-        Err(NumberError::Beyond) => {
-            *out = 0.0;
-            22
-        }
+        Ok(_) => 0,
+        Err(NumberError::Malformed) => 2,
+        Err(NumberError::Beyond) => 22,
     }
 }
 
@@ -38,15 +30,10 @@ pub extern "C" fn leaf_count(s: &[u8], out: &mut u64) -> u64
     ensures value { out.new ≡ whole_in (count_of s.now) }
 {
     let n = leaf_counts::read_count(s);
+    *out = n.unwrap_or(0);
     match n {
-        Some(x) => {
-            *out = x;
-            0
-        }
-        None => {
-            *out = 0;
-            2
-        }
+        Some(_) => 0,
+        None => 2,
     }
 }
 
@@ -56,22 +43,11 @@ pub extern "C" fn leaf_time(time: &[u8], unit: &[u8], out: &mut u64) -> u64
     ensures value { out.new ≡ seconds_in (time_of time.now unit.now) }
 {
     let t = leaf_clock::read_time(time, unit);
+    *out = t.unwrap_or(0);
     match t {
-        Ok(x) => {
-            *out = x;
-            0
-        }
-        Err(TimeError::Malformed) => {
-            *out = 0;
-            2
-        }
-        Err(TimeError::Beyond) => {
-            *out = 0;
-            22
-        }
-        Err(TimeError::UnknownUnit) => {
-            *out = 0;
-            7
-        }
+        Ok(_) => 0,
+        Err(TimeError::Malformed) => 2,
+        Err(TimeError::Beyond) => 22,
+        Err(TimeError::UnknownUnit) => 7,
     }
 }

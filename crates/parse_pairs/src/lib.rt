@@ -27,32 +27,20 @@ pub struct PairLine {
 pub fn read_emitter(l: &[u8], at: usize) -> Result<EmitterLine, Reason>
     ensures { EmitterAs l.now (emitter_of (fields_at l.now at)) result }
 {
-    let f = leaf_fields::next_field(l, at);
-    let Some(id) = f else {
-        return Err(Reason::Missing);
-    };
-    let first = parse_fields::take_number(l, id.end);
-    match first {
-        Ok((coefficient, _)) => Ok(EmitterLine { id, coefficient }),
-        Err(why) => Err(why),
-    }
+    let junction = leaf_fields::next_field(l, at).ok_or(Reason::Missing)?;
+    let (coefficient, _) = parse_fields::take_number(l, junction.end)?;
+    Ok(EmitterLine {
+        id: junction,
+        coefficient,
+    })
 }
 
 // Id, x, y.
 pub fn read_pair(l: &[u8], at: usize) -> Result<PairLine, Reason>
     ensures { PairAs l.now (pair_of (fields_at l.now at)) result }
 {
-    let f = leaf_fields::next_field(l, at);
-    let Some(id) = f else {
-        return Err(Reason::Missing);
-    };
-    let first = parse_fields::take_number(l, id.end);
-    let Ok((x, at2)) = first else {
-        return Err(parse_fields::reason_of(first));
-    };
-    let second = parse_fields::take_number(l, at2);
-    match second {
-        Ok((y, _)) => Ok(PairLine { id, x, y }),
-        Err(why) => Err(why),
-    }
+    let id = leaf_fields::next_field(l, at).ok_or(Reason::Missing)?;
+    let (x, at2) = parse_fields::take_number(l, id.end)?;
+    let (y, _) = parse_fields::take_number(l, at2)?;
+    Ok(PairLine { id, x, y })
 }

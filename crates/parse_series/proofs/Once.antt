@@ -13,7 +13,8 @@ use Rattle.leaf_fields.specs.Fields.{fields_at, name_in}
 use Rattle.leaf_fields.proofs.FieldLaws.{span-once, opt-once}
 use Rattle.scope.specs.Values.{Read}
 use Rattle.scope.specs.Series.{multipliers_of, PatternFields, DemandFields}
-use Rattle.parse_series.specs.Lines.{PatternAs, demand_in, DemandAs}
+use Rattle.parse_fields.proofs.Once.{read-once}
+use Rattle.parse_series.specs.Lines.{PatternAs, DemandAs}
 use Rattle.parse_series.specs.declared.PatternLine.{PatternLine}
 
 -- ---- a pattern
@@ -46,13 +47,8 @@ pattern-once l o f g (Err why) (Err also) n a b = cc
 
 -- ---- a demand
 pub demand-once : (l : List ℕ) (o : Read DemandFields) (r s : Result DemandLine Reason) → DemandAs l o r → DemandAs l o s → r ≡ s
-demand-once l o (Ok x) (Ok y) (e, k, m) (f, j, n) =
-    let h : demand_in l x ≡ demand_in l y = cc in
-    λ i. Ok (record {
-      id = span-once l k j (ap DemandFields.id h) i;
-      base = (h i).base;
-      pattern = opt-once l x.pattern y.pattern m n (ap DemandFields.pattern h) i;
-    })
-demand-once l o (Ok x) (Err why) (e, k, m) f = cc
-demand-once l o (Err why) (Ok y) e (f, j, n) = cc
-demand-once l o (Err why) (Err also) e f = cc
+demand-once l = read-once (λ x y (k, m) (j, n) h. λ i. record {
+  id = span-once l k j (ap DemandFields.id h) i;
+  base = (h i).base;
+  pattern = opt-once l x.pattern y.pattern m n (ap DemandFields.pattern h) i;
+})

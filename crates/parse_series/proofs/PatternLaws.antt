@@ -1,6 +1,6 @@
 -- A loop over the multipliers of a line. Assumes nothing.
 use Rattle.leaf_decimals.specs.declared.NumberError.{NumberError}
-use Rattle.std.specs.Prelude.{Err, Ok, Result}
+use Rattle.std.specs.Prelude.{Err, Ok}
 use Prim.Native.Nat.{ℕ, suc, ◌+◌, ◌≤◌, ◌<◌}
 use native.Mathlib.Omega.{arith}
 use native.Mathlib.Numerals.{add-one}
@@ -11,14 +11,10 @@ use lib.ListN.{length, take, drop, set, length-append, length-drop, length-set, 
 use lib.Seq.{take-nil, drop-nil, take_all, take-append-le, drop-append-le, take-suc-set}
 use lib.Ieee.{Float}
 use Rattle.leaf_decimals.specs.Numbers.{number_of}
-use Rattle.leaf_decimals.specs.declared.NumberError.TheVariants.{Malformed, Beyond}
 use Rattle.leaf_scans.specs.Lines.{is_space}
 use Rattle.leaf_fields.specs.Fields.{Name, on_first, before, fields_of, fields_at}
-use Rattle.scope.specs.declared.Reason.{Reason}
-use Rattle.scope.specs.declared.Reason.TheVariants as reason
-use Rattle.scope.specs.Values.{Read, good, bad, on_read}
+use Rattle.scope.specs.Values.{Read, good, bad, on_read, number_reason}
 use Rattle.scope.specs.Series.{multipliers_of}
-use Rattle.parse_fields.specs.Taking.{number_took}
 use Rattle.parse_series.specs.Lines.{CountedAs}
 
 -- there are no more fields than bytes
@@ -50,18 +46,13 @@ line-le l at = omega (arith, fields_le at (drop at l), length-drop at l)
 
 -- a field that is a number, and one that is none
 module _ (f : Name) (fs : List Name) where
-  with_number : (n : Result Float NumberError) (x : Float) (e next : ℕ) → number_of f.letters ≡ n → number_took n e ≡ Ok (x, next)
-      → (multipliers_of (f ∷ fs) ≡ on_read (multipliers_of fs) (λ xs. good (x ∷ xs))) × (e ≡ next)
+  with_number : {x : Float} → number_of f.letters ≡ Ok x → multipliers_of (f ∷ fs) ≡ on_read (multipliers_of fs) (λ xs. good (x ∷ xs))
   unfolding multipliers_of
-  with_number (Ok y) x e next q h = let a : y ≡ x = cc in let b : e ≡ next = cc in (rw (q, a), b)
-  with_number (Err Malformed) x e next q h = absurd (let z : ◌≡◌ {A = ℕ} 0 1 = cc in omega arith)
-  with_number (Err Beyond) x e next q h = absurd (let z : ◌≡◌ {A = ℕ} 0 1 = cc in omega arith)
+  with_number q = rw q
 
-  no_number : (n : Result Float NumberError) (why : Reason) (e : ℕ) → number_of f.letters ≡ n → number_took n e ≡ Err why → multipliers_of (f ∷ fs) ≡ bad why
+  no_number : {e : NumberError} → number_of f.letters ≡ Err e → multipliers_of (f ∷ fs) ≡ bad (number_reason e)
   unfolding multipliers_of
-  no_number (Ok y) why e q h = absurd (let z : ◌≡◌ {A = ℕ} 0 1 = cc in omega arith)
-  no_number (Err Malformed) why e q h = let a : reason.Malformed ≡ why = cc in rw (q, a)
-  no_number (Err Beyond) why e q h = let a : reason.BeyondReach ≡ why = cc in rw (q, a)
+  no_number q = rw q
 
 -- how far the loop has come: n multipliers of the fields fs are read, and the first r of them are kept; the fields gs are left, and past those that are kept, the fields hs
 pub record Going (fs gs hs : List Name) (r : ℕ) (first : List Float) (n : ℕ) : Type 0 where
@@ -95,19 +86,17 @@ start-going fs first =
     }
 
 module _ {fs gs hs : List Name} {r : ℕ} {first : List Float} {n : ℕ} (g : Going fs gs hs r first n) where
-  -- one more number: the next field f ends at e
-  module _ (l : List ℕ) (f : Name) (e next : ℕ) (x : Float) (q : gs ≡ f ∷ fields_at l e) (h : number_took (number_of f.letters) e ≡ Ok (x, next)) where
+  -- one more number: the other fields stand from the place `next` on
+  module _ (l : List ℕ) (f : Name) (next : ℕ) (x : Float) (q : gs ≡ f ∷ fields_at l next) (h : number_of f.letters ≡ Ok x) where
     abbrev more : List Float
     more = g.done ++ (x ∷ [])
 
-    one : (multipliers_of gs ≡ on_read (multipliers_of (fields_at l next)) (λ xs. good (x ∷ xs))) × (length gs ≡ length (fields_at l next) + 1)
-    one =
-        let (p, same) = with_number f (fields_at l e) (number_of f.letters) x e next refl h in
-        (rw (q, ← same) p, rw (← same) (omega (arith, ap length q)))
+    one : multipliers_of gs ≡ on_read (multipliers_of (fields_at l next)) (λ xs. good (x ∷ xs))
+    one = rw q (with_number f (fields_at l next) h)
 
     -- fewer fields are left
     pub less-going : length gs ≡ length (fields_at l next) + 1
-    less-going = one.1
+    less-going = omega (arith, ap length q)
 
     more-long : length more ≡ n + 1
     more-long = omega (arith, length-append g.done (x ∷ []), g.long)
@@ -115,7 +104,7 @@ module _ {fs gs hs : List Name} {r : ℕ} {first : List Float} {n : ℕ} (g : Go
     -- what was read before, and the number, before what is left
     then : (done : List Float) (o : Read (List Float)) → o ≡ on_read (multipliers_of gs) (λ xs. good (done ++ xs))
         → o ≡ on_read (multipliers_of (fields_at l next)) (λ xs. good ((done ++ (x ∷ [])) ++ xs))
-    then done o e = e ∙ rw one.0 (on-more (multipliers_of (fields_at l next)) done x)
+    then done o e = e ∙ rw one (on-more (multipliers_of (fields_at l next)) done x)
 
     -- a number that is kept, and one past the first eight
     pub keep-going : n < r → Going fs (fields_at l next) (fields_at l next) r (set first n x) (n + 1)
@@ -127,7 +116,7 @@ module _ {fs gs hs : List Name} {r : ℕ} {first : List Float} {n : ℕ} (g : Go
           done = more;
           long = more-long;
           whole = then g.done (multipliers_of fs) g.whole;
-          fewer = omega (arith, one.1, g.fewer);
+          fewer = omega (arith, less-going, g.fewer);
           room = length-set first n x ∙ g.room;
           kept = rw (all, add-one, take-suc-set first n x (omega (arith, g.room)), before);
           left = rw none (on-nothing (multipliers_of (fields_at l next)));
@@ -139,14 +128,14 @@ module _ {fs gs hs : List Name} {r : ℕ} {first : List Float} {n : ℕ} (g : Go
           done = more;
           long = more-long;
           whole = then g.done (multipliers_of fs) g.whole;
-          fewer = omega (arith, one.1, g.fewer);
+          fewer = omega (arith, less-going, g.fewer);
           room = g.room;
           kept = take_all (n + 1) first (omega (arith, g.room)) ∙ sym (take_all n first (omega (arith, g.room))) ∙ g.kept ∙ sym (take-append-le r g.done (x ∷ []) (omega (arith, g.long)));
           left = rw (drop-append-le r g.done (x ∷ []) (omega (arith, g.long))) (then (drop r g.done) (multipliers_of hs) g.left);
         }
 
-  pub bad-going : (l : List ℕ) (f : Name) (e : ℕ) (why : Reason) → gs ≡ f ∷ fields_at l e → number_took (number_of f.letters) e ≡ Err why → multipliers_of fs ≡ bad why
-  bad-going l f e why q h = g.whole ∙ rw (q, no_number f (fields_at l e) (number_of f.letters) why e refl h)
+  pub bad-going : (l : List ℕ) (f : Name) (next : ℕ) (e : NumberError) → gs ≡ f ∷ fields_at l next → number_of f.letters ≡ Err e → multipliers_of fs ≡ bad (number_reason e)
+  bad-going l f next e q h = g.whole ∙ rw (q, no_number f (fields_at l next) h)
 
 pub done-going : {fs gs : List Name} {r : ℕ} {first : List Float} {n : ℕ} (l : List ℕ) (rest : ℕ) → Going fs gs (fields_at l rest) r first n → gs ≡ []
     → CountedAs l first (multipliers_of fs) (Ok (n, rest))

@@ -4,7 +4,7 @@ use Rattle.std.specs.Prelude.{ℕ, ◌≡◌, List, length, take, drop, Float, E
 use Rattle.leaf_fields.specs.Fields.{fields_at, name_in, Fits}
 use Rattle.scope.specs.Values.{Read, good, bad}
 use Rattle.scope.specs.Series.{multipliers_of, PatternFields, DemandFields}
-use Rattle.parse_fields.specs.Taking.{opt_in, MayFit}
+use Rattle.parse_fields.specs.Taking.{opt_in, MayFit, ReadAs}
 use Rattle.parse_series.specs.declared.PatternLine.{PatternLine}
 use Rattle.parse_series.specs.declared.DemandLine.{DemandLine}
 
@@ -36,5 +36,4 @@ abbrev pub demand_in : List ℕ → DemandLine → DemandFields
 demand_in l d = record { id = name_in l d.id; base = d.base; pattern = opt_in l d.pattern }
 
 abbrev pub DemandAs : List ℕ → Read DemandFields → Result DemandLine Reason → Type 0
-DemandAs l o (Ok d) = (o ≡ good (demand_in l d)) × Fits l d.id × MayFit l d.pattern
-DemandAs l o (Err why) = o ≡ bad why
+DemandAs l = ReadAs (demand_in l) (λ d. Fits l d.id × MayFit l d.pattern)

@@ -6,7 +6,6 @@ ghost use Rattle.scope.specs.Series.{multipliers_of, pattern_of, demand_of};
 ghost use Rattle.parse_series.specs.Lines.{CountedAs, PatternAs, DemandAs};
 
 use leaf_fields::Span;
-
 use scope::Reason;
 
 // A pattern's id, how many multipliers there are, and where those start that do not stand in the caller's slice.
@@ -31,56 +30,34 @@ fn count_multipliers(l: &[u8], at: usize, first: &mut [f64]) -> Result<(usize, u
     let mut n: usize = 0;
     let mut p = at;
     let mut rest = at;
-    loop {
-        let f = parse_fields::next_number(l, p);
-        let Some((number, end)) = f else {
-            return Ok((n, rest));
-        };
-        let t = parse_fields::as_number(number, end);
-        match t {
-            Ok((x, next)) => {
-                if n < first.len() {
-                    first[n] = x;
-                    rest = next;
-                }
-                n += 1;
-                p = next;
-            }
-            Err(why) => {
-                return Err(why);
-            }
+    while let Some((number, next)) = parse_fields::next_number(l, p) {
+        let x = number?;
+        if n < first.len() {
+            first[n] = x;
+            rest = next;
         }
+        n += 1;
+        p = next;
     }
+    Ok((n, rest))
 }
 
 // Id, and any count of multipliers. The first of them are put into `first`.
 pub fn read_pattern(l: &[u8], at: usize, first: &mut [f64]) -> Result<PatternLine, Reason>
     ensures { PatternAs l.now first.new (pattern_of (fields_at l.now at)) result }
 {
-    let f = leaf_fields::next_field(l, at);
-    let Some(id) = f else {
-        return Err(Reason::Missing);
-    };
+    let id = leaf_fields::next_field(l, at).ok_or(Reason::Missing)?;
     let from = id.end;
-    let all = count_multipliers(l, from, first);
-    match all {
-        Ok((count, rest)) => Ok(PatternLine { id, count, rest }),
-        Err(why) => Err(why),
-    }
+    let (count, rest) = count_multipliers(l, from, first)?;
+    Ok(PatternLine { id, count, rest })
 }
 
 // A junction, its demand, optional pattern.
 pub fn read_demand(l: &[u8], at: usize) -> Result<DemandLine, Reason>
     ensures { DemandAs l.now (demand_of (fields_at l.now at)) result }
 {
-    let f = leaf_fields::next_field(l, at);
-    let Some(id) = f else {
-        return Err(Reason::Missing);
-    };
-    let first = parse_fields::take_number(l, id.end);
-    let Ok((base, at2)) = first else {
-        return Err(parse_fields::reason_of(first));
-    };
+    let id = leaf_fields::next_field(l, at).ok_or(Reason::Missing)?;
+    let (base, at2) = parse_fields::take_number(l, id.end)?;
     let pattern = leaf_fields::next_field(l, at2);
     Ok(DemandLine { id, base, pattern })
 }

@@ -8,17 +8,14 @@ ghost use Rattle.parse_nodes.specs.Lines.{NodeAs};
 ghost use Rattle.parse_tanks.specs.Lines.{CurveAs};
 
 use leaf_fields::Span;
-use parse_nodes::{NodeRead, ReservoirLine, TankLine};
+use parse_nodes::{NodeLine, ReservoirLine, TankLine};
 use scope::{Reason, Tank};
 
 // A tank's curve: `*` is none.
 fn take_curve(l: &[u8], at: usize) -> Option<Span>
     ensures { CurveAs l.now (curve_in (fields_at l.now at)) result }
 {
-    let f = leaf_fields::next_field(l, at);
-    let Some(s) = f else {
-        return None;
-    };
+    let s = leaf_fields::next_field(l, at)?;
     if leaf_letters::equal(leaf_fields::letters_of(l, s), b"*") {
         return None;
     }
@@ -29,37 +26,21 @@ fn take_curve(l: &[u8], at: usize) -> Option<Span>
 fn take_overflow(l: &[u8], at: usize) -> bool
     ensures { result ≡ overflow_in (fields_at l.now at) }
 {
-    let f = leaf_fields::next_field(l, at);
-    let Some(s) = f else {
+    let Some(s) = leaf_fields::next_field(l, at) else {
         return false;
     };
     leaf_letters::spells(leaf_fields::letters_of(l, s), b"YES")
 }
 
 // A tank's fields after its elevation.
-fn read_levels(l: &[u8], at: usize, id: Span, elevation: f64) -> NodeRead
+fn read_levels(l: &[u8], at: usize, id: Span, elevation: f64) -> Result<NodeLine, Reason>
     ensures { Fits l.now id → NodeAs l.now (levels_of (name_in l.now id) elevation (fields_at l.now at)) result }
 {
-    let first = parse_fields::take_number(l, at);
-    let Ok((initial, at2)) = first else {
-        return NodeRead::NoNode(parse_fields::reason_of(first));
-    };
-    let second = parse_fields::take_number(l, at2);
-    let Ok((minimum, at3)) = second else {
-        return NodeRead::NoNode(parse_fields::reason_of(second));
-    };
-    let third = parse_fields::take_number(l, at3);
-    let Ok((maximum, at4)) = third else {
-        return NodeRead::NoNode(parse_fields::reason_of(third));
-    };
-    let fourth = parse_fields::take_number(l, at4);
-    let Ok((diameter, at5)) = fourth else {
-        return NodeRead::NoNode(parse_fields::reason_of(fourth));
-    };
-    let fifth = parse_fields::take_number_or(l, at5, b"0");
-    let Ok((volume, at6)) = fifth else {
-        return NodeRead::NoNode(parse_fields::reason_of(fifth));
-    };
+    let (initial, at2) = parse_fields::take_number(l, at)?;
+    let (minimum, at3) = parse_fields::take_number(l, at2)?;
+    let (maximum, at4) = parse_fields::take_number(l, at3)?;
+    let (diameter, at5) = parse_fields::take_number(l, at4)?;
+    let (volume, at6) = parse_fields::take_number_or(l, at5, b"0")?;
     let curve = take_curve(l, at6);
     let at7 = leaf_fields::past_field(l, at6);
     let overflow = take_overflow(l, at7);
@@ -73,28 +54,21 @@ fn read_levels(l: &[u8], at: usize, id: Span, elevation: f64) -> NodeRead
         curve,
         overflow,
     };
-    NodeRead::Basin(TankLine { id, tank })
+    Ok(NodeLine::Tank(TankLine { id, tank }))
 }
 
 // Id, elevation, then a tank's levels; id and elevation alone make a reservoir.
-pub fn read_tank(l: &[u8], at: usize) -> NodeRead
+pub fn read_tank(l: &[u8], at: usize) -> Result<NodeLine, Reason>
     ensures { NodeAs l.now (tank_of (fields_at l.now at)) result }
 {
-    let f = leaf_fields::next_field(l, at);
-    let Some(id) = f else {
-        return NodeRead::NoNode(Reason::Missing);
-    };
-    let height = parse_fields::take_number(l, id.end);
-    let Ok((elevation, at2)) = height else {
-        return NodeRead::NoNode(parse_fields::reason_of(height));
-    };
-    let more = leaf_fields::next_field(l, at2);
-    match more {
-        Some(_) => read_levels(l, at2, id, elevation),
-        None => NodeRead::Reservoir(ReservoirLine {
-            id,
-            elevation,
-            pattern: more,
-        }),
+    let id = leaf_fields::next_field(l, at).ok_or(Reason::Missing)?;
+    let (elevation, at2) = parse_fields::take_number(l, id.end)?;
+    if leaf_fields::next_field(l, at2).is_some() {
+        return read_levels(l, at2, id, elevation);
     }
+    Ok(NodeLine::Reservoir(ReservoirLine {
+        id,
+        elevation,
+        pattern: None,
+    }))
 }

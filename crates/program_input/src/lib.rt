@@ -1,7 +1,7 @@
 // The text that a program reads: a file named on the command line, or standard input.
 #![tactic(auto)]
 
-ghost use Rattle.std.specs.Prelude.{◌≤◌, IfOk, length};
+ghost use Rattle.std.specs.Prelude.{◌≡◌, ◌≤◌, ℕ, IfOk, Ok, Some, length};
 
 use std::env::{Env, FillError};
 use std::io::{ErrorKind, Read, Write};
@@ -15,13 +15,6 @@ const NAME_ROOM: usize = 4096;
 
 // The system's number for a name that is too long.
 const NAME_TOO_LONG: i32 = 36;
-
-// How many bytes were read, or that they could not be.
-#[derive(Clone, Copy)]
-pub enum Input {
-    Read(usize),
-    Failed,
-}
 
 // Reads until the buffer is full or the input ends.
 fn read_all<R: Read>(from: &mut R, buffer: &mut [u8]) -> io::Result<usize>
@@ -40,75 +33,68 @@ fn read_all<R: Read>(from: &mut R, buffer: &mut [u8]) -> io::Result<usize>
 
 // The system's words for an error, without the number that std puts behind them.
 fn words_of(said: &str) -> &str {
-    match said.split_once(" (os error ") {
-        Some((words, _)) => words,
-        None => said,
-    }
+    said.split_once(" (os error ")
+        .map_or(said, |(words, _)| words)
 }
 
 // Says what failed and why: the program's name, what it failed on, and the system's words.
-fn complain(rt: &HostRuntime, program: &[u8], what: &[u8], why: io::Error) -> io::Result<()> {
+fn complain(rt: &HostRuntime, program: &str, what: &[u8], why: io::Error) -> io::Result<()> {
     let said = format!(in rt.alloc(); "{why}")?;
     let words = words_of(said.as_str());
     let mut to = rt.stderr();
-    to.write_all(program)?;
-    to.write_all(b": ")?;
+    write!(to, "{program}: ")?;
     to.write_all(what)?;
     writeln!(to, ": {words}")
 }
 
-// What was read; why nothing was is said on standard error.
+// How many bytes were read; where they could not be, none, and why is said on standard error.
 fn told(
     rt: &HostRuntime,
-    program: &[u8],
+    program: &str,
     what: &[u8],
     read: io::Result<usize>,
-) -> io::Result<Input> {
+) -> io::Result<Option<usize>>
+    ensures { (n : ℕ) → result ≡ Ok (Some n) → read ≡ Ok n }
+{
     match read {
-        Ok(n) => Ok(Input::Read(n)),
+        Ok(n) => Ok(Some(n)),
         Err(why) => {
             complain(rt, program, what, why)?;
-            Ok(Input::Failed)
+            Ok(None)
         }
     }
 }
 
-fn read_path(rt: &HostRuntime, path: &[u8], buffer: &mut [u8]) -> io::Result<usize> {
-    match std::str::from_utf8(path) {
-        Ok(path) => {
-            let mut file = fs::open(rt, path)?;
-            read_all(&mut file, buffer)
-        }
-        Err(_) => Err(io::Error::from(ErrorKind::InvalidFilename)),
-    }
+fn read_path(rt: &HostRuntime, path: &[u8], buffer: &mut [u8]) -> io::Result<usize>
+    ensures { IfOk result (λ n. n ≤ length buffer.new) }
+{
+    let Ok(path) = std::str::from_utf8(path) else {
+        return Err(io::Error::from(ErrorKind::InvalidFilename));
+    };
+    read_all(&mut fs::open(rt, path)?, buffer)
 }
 
-fn read_file(
-    rt: &HostRuntime,
-    program: &[u8],
-    path: &[u8],
-    buffer: &mut [u8],
-) -> io::Result<Input> {
-    let read = read_path(rt, path, buffer);
-    told(rt, program, path, read)
-}
-
-fn read_stdin(rt: &HostRuntime, program: &[u8], buffer: &mut [u8]) -> io::Result<Input> {
-    let read = read_all(&mut rt.stdin(), buffer);
-    told(rt, program, b"standard input", read)
-}
-
-// The file that argument `i` names, or standard input where there is none. What goes wrong is said on standard error.
+// Reads the file that argument `i` names, or standard input where there is none, and tells how many bytes of the buffer it
+// filled. What goes wrong is said on standard error.
 pub fn read_argument(
     rt: &HostRuntime,
-    program: &[u8],
+    program: &str,
     i: usize,
     buffer: &mut [u8],
-) -> io::Result<Input> {
+) -> io::Result<Option<usize>>
+    ensures { (n : ℕ) → result ≡ Ok (Some n) → n ≤ length buffer.new }
+{
     let mut space = [0u8; NAME_ROOM];
     match rt.arg(i, &mut space) {
-        Ok(n) => read_file(rt, program, &space[..n], buffer),
-        Err(FillError::NotPresent) => read_stdin(rt, program, buffer),
+        Ok(n) => {
+            let path = &space[..n];
+            let read = read_path(rt, path, buffer);
+            told(rt, program, path, read)
+        }
+        Err(FillError::NotPresent) => {
+            let read = read_all(&mut rt.stdin(), buffer);
+            told(rt, program, b"standard input", read)
+        }
         Err(FillError::TooLong) => {
             let why = io::Error::from_raw_os_error(NAME_TOO_LONG);
             told(rt, program, b"file name", Err(why))
@@ -117,10 +103,7 @@ pub fn read_argument(
 }
 
 // Whether argument `i` is the word.
-pub fn argument_is(rt: &HostRuntime, i: usize, word: &[u8]) -> bool {
+pub fn argument_is(rt: &HostRuntime, i: usize, word: &str) -> bool {
     let mut space = [0u8; NAME_ROOM];
-    match rt.arg(i, &mut space) {
-        Ok(n) => leaf_letters::equal(&space[..n], word),
-        Err(_) => false,
-    }
+    matches!(rt.arg(i, &mut space), Ok(n) if &space[..n] == word.as_bytes())
 }

@@ -1,23 +1,24 @@
 -- A turn of the loop of both readings, and its end. Assumes nothing.
 use Prim.Native.Nat.{ℕ, ◌-◌, ◌≤◌, ◌<◌}
 use native.Mathlib.Omega.{arith}
-use mathlib.Core.Path.{◌≡◌, refl, sym, ap, ◌∙◌}
+use mathlib.Core.Path.{◌≡◌, refl, ap, ◌∙◌}
 use mathlib.Core.Bool.{Bool, true, false, cond}
 use mathlib.Core.List.{List}
 use lib.ListN.{length, set}
-use lib.Dec.{eqb}
 use lib.Ieee.{Float}
 use Rattle.scope_lines.specs.Reader.{step}
-use Rattle.scope_lines.specs.Tables.{refilled}
 use Rattle.scope.specs.Sections.{room_lines, room_text}
 use Rattle.scope.specs.Records.{Network, no_network, counts_of}
 use Rattle.scope.specs.Series.{resolved}
 use Rattle.scope.specs.Lines.{inp}
 use Rattle.table_rows.specs.Holding.{Holds}
 use Rattle.read_steps.specs.Held.{Goes, new_state}
+use Rattle.std.specs.Prelude.{None, Some, IfSome}
+use Rattle.std.proofs.lemmas.Option.{none-some}
+use Rattle.read_marks.specs.declared.Refusal.{Refusal}
+use Rattle.read_marks.specs.Marked.{closed_in, refused_in}
 use Rattle.read_steps.specs.declared.State.{State}
 use Rattle.read_steps.specs.declared.Turn.{Turn}
-use Rattle.read_steps.proofs.StepLaws.{never}
 use Rattle.read_marks.specs.Filled.{filled}
 use Rattle.read_runs.specs.Onward.{Ready, Onward}
 use Rattle.read_runs.proofs.OnwardLaws.{further, ready-after, after_line}
@@ -76,34 +77,34 @@ module _ {b : Bool} {text : List ℕ} {nc nr : ℕ} {w : List ℕ} {f : List Flo
     pub onward : s.at < t.state.at
     onward = further h (go g.ready.m g.ready.stands)
 
-    pub turn-asks : b ≡ true → (s.line < length c) × ((t.closed ≡ 0 → ⊥) → (0 < t.piece) × (t.piece ≤ s.line)) × ((t.reason ≡ 0 → ⊥) → (0 < t.piece) × (t.piece ≤ length r))
+    pub turn-asks : b ≡ true → (s.line < length c) × IfSome t.closed (λ c. (0 < c.first) × (c.first ≤ s.line)) × IfSome t.refused (λ x. (0 < x.piece) × (x.piece ≤ length r))
     turn-asks z = (
       swept.line-asks (g.survey z) h (room_c z) (room_r z) go,
       swept.class-asks (g.survey z) h (room_c z) (room_r z) go,
-      λ x. let p = swept.reason-asks (g.survey z) h (room_c z) (room_r z) go x in (p.0, omega (arith, p.1, g.long_r)),
+      rw g.long_r (swept.reason-asks (g.survey z) h (room_c z) (room_r z) go),
     )
 
-    pub turn_on : {c' r' : List ℕ} → (b ≡ false → t.reason ≡ 0)
-        → c' ≡ cond b (set (cond (eqb t.closed 0) c (refilled c (t.piece - 1) s.line t.closed)) s.line t.class) c → length c' ≡ length c
-        → r' ≡ cond b (cond (eqb t.reason 0) r (set r (t.piece - 1) t.reason)) r → length r' ≡ length r
+    pub turn_on : {c' r' : List ℕ} → cond b None t.refused ≡ None
+        → c' ≡ cond b (set (closed_in t.closed s.line c) s.line t.class) c → length c' ≡ length c
+        → r' ≡ cond b (refused_in t.refused r) r → length r' ≡ length r
         → Along b text nc nr w' f' c' r' t.state
     turn_on y ec lc er lr =
         record {
-          strict = λ z. gone.turn (g.strict z) h go (y z);
+          strict = λ z. gone.turn (g.strict z) h go (rw z at y);
           survey = λ z. swept.swept-on (g.survey z) h (room_c z) (room_r z) go
-              (ec ∙ ap (λ (x : Bool). cond x (set (cond (eqb t.closed 0) c (refilled c (t.piece - 1) s.line t.closed)) s.line t.class) c) z) lc
-              (er ∙ ap (λ (x : Bool). cond x (cond (eqb t.reason 0) r (set r (t.piece - 1) t.reason)) r) z) lr;
+              (ec ∙ ap (λ (x : Bool). cond x (set (closed_in t.closed s.line c) s.line t.class) c) z) lc
+              (er ∙ ap (λ (x : Bool). cond x (refused_in t.refused r) r) z) lr;
           room = g.room;
           ready = after_line g.ready go;
           long_c = lc ∙ g.long_c;
           long_r = lr ∙ g.long_r;
         }
 
-    pub turn-stops : {c' r' : List ℕ} (n : ℕ) → b ≡ false → (t.reason ≡ 0 → ⊥)
-        → (b ≡ false → Done text w' f' t.reason t.piece t.state.counts) × (b ≡ true → Overseen text w' f' c' r' n t.state.counts)
-    turn-stops n y x = (λ z. gone.halt (g.strict z) h go x, λ z. never (sym y ∙ z))
+    pub turn-stops : {x : Refusal} {c' r' : List ℕ} (n : ℕ) → cond b None t.refused ≡ Some x
+        → (b ≡ false → Done text w' f' (Some x) t.state.counts) × (b ≡ true → Overseen text w' f' c' r' n t.state.counts)
+    turn-stops n y = (λ z. gone.halt (g.strict z) h go (rw z at y), λ z. absurd (none-some _ (rw z at y)))
 
   -- ---- the end
   pub ended : {w' : List ℕ} → length text ≤ s.at → ((n : Network) (y : List Float) → Holds text n s.counts w y → Holds text (resolved n) s.counts w' y)
-      → (b ≡ false → Done text w' f 0 0 s.counts) × (b ≡ true → Overseen text w' f c r s.line s.counts)
+      → (b ≡ false → Done text w' f None s.counts) × (b ≡ true → Overseen text w' f c r s.line s.counts)
   ended h res = (λ z. gone.ended (g.strict z) h res, λ z. swept.overseen (g.survey z) h (g.room z).0 (g.room z).1 res)

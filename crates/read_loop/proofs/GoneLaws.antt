@@ -1,7 +1,7 @@
 -- A turn of strict reading, and its end. Assumes nothing.
 use Prim.Native.Nat.{ℕ, ◌+◌, ◌≤◌, ◌<◌}
 use native.Mathlib.Omega.{arith}
-use mathlib.Core.Path.{◌≡◌, refl, sym, ap, ◌∙◌, subst}
+use mathlib.Core.Path.{◌≡◌, refl, sym, ap, ap₂, ◌∙◌, subst}
 use mathlib.Core.Bool.{false}
 use mathlib.Core.List.{List}
 use lib.ListN.{length}
@@ -16,9 +16,14 @@ use Rattle.scope.specs.Lines.{inp}
 use Rattle.scope.specs.Reading.{at_start, says, told, strict_of, network_in}
 use Rattle.table_rows.specs.Holding.{Holds}
 use Rattle.read_steps.specs.Held.{Model, Carries, Stepped, Goes, new_state}
+use Rattle.std.specs.Prelude.{None, Some}
+use Rattle.std.proofs.lemmas.Option.{none-some, MatchOption-at_some}
+use Rattle.scope.specs.Answers.{reason_no}
+use Rattle.read_marks.specs.declared.Refusal.{Refusal}
+use Rattle.read_marks.specs.Marked.{refused_no}
 use Rattle.read_steps.specs.declared.State.{State}
 use Rattle.read_steps.specs.declared.Turn.{Turn}
-use Rattle.read_steps.proofs.StepLaws.{never}
+use Rattle.read_steps.proofs.StepLaws.{some-reason}
 use Rattle.read_runs.specs.Onward.{Onward, none, more}
 use Rattle.read_runs.proofs.OnwardLaws.{same}
 use Rattle.read_loop.specs.Over.{Done}
@@ -30,7 +35,7 @@ pub record Gone (text : List ℕ) (s : State) (w : List ℕ) (f : List Float) : 
   pub going : Going inp false Passed no_network text m s.at s.line
 
 pub start-stands : (text w : List ℕ) (f : List Float) (s : State) → s ≡ new_state → Holds text no_network (counts_of no_network) w f → Carries text s w f at_start
-start-stands text w f s e h = rw e (record { sec = refl; none = λ _. refl; group = never; recs = h; line = omega arith; here = omega arith })
+start-stands text w f s e h = rw e (record { sec = refl; none = λ _. refl; group = λ g eg. absurd (none-some g eg); recs = h; line = omega arith; here = omega arith })
 
 pub begin : (text w : List ℕ) (f : List Float) (s : State) → s ≡ new_state → Holds text no_network (counts_of no_network) w f → Gone text s w f
 begin text w f s e h = record { m = at_start; stands = start-stands text w f s e h; going = rw e (going_start inp false Passed no_network text) }
@@ -40,25 +45,27 @@ module _ {text w : List ℕ} {f : List Float} {s : State} (g : Gone text s w f) 
     stepped : Stepped text s (line_at text s.at (s.line + 1)) g.m (step inp false g.m (line_at text s.at (s.line + 1))) r w' f'
     stepped = go g.m g.stands
 
-    pub turn : r.reason ≡ 0 → Gone text r.state w' f'
+    pub turn : r.refused ≡ None → Gone text r.state w' f'
     turn z =
         let st = stepped in
         record {
           m = next g.m (line_at text s.at (s.line + 1)) (step inp false g.m (line_at text s.at (s.line + 1)));
           stands = st.stands;
-          going = going_on inp false Passed no_network text g.going st.tells h st.at st.line z;
+          going = going_on inp false Passed no_network text g.going st.tells h st.at st.line (ap refused_no z);
         }
 
-    pub halt : (r.reason ≡ 0 → ⊥) → Done text w' f' r.reason r.piece r.state.counts
+    pub halt : {x : Refusal} → r.refused ≡ Some x → Done text w' f' (Some x) r.state.counts
     unfolding strict_of told network_in
-    halt z =
+    halt {x} z =
         let st = stepped in
-        let p = going-stops inp false Passed no_network text g.going st.tells h st.at st.line z in (
-          ap (says r.reason) (sym p.2) ∙ sym (ap told p.1),
+        let n : refused_no r.refused ≡ reason_no x.reason = ap refused_no z in
+        let at : x.piece ≡ st.piece = MatchOption-at_some _ _ x z st.named.refused in
+        let p = going-stops inp false Passed no_network text g.going st.tells h st.at st.line (λ e. some-reason x.reason (sym n ∙ e)) in (
+          ap₂ says (sym n) (at ∙ sym p.2) ∙ sym (ap told p.1),
           subst (λ (x : Network). Holds text x r.state.counts w' f') (sym (ap network_in p.1)) st.stands.recs,
         )
 
-  pub ended : {w' : List ℕ} → length text ≤ s.at → ((n : Network) (y : List Float) → Holds text n s.counts w y → Holds text (resolved n) s.counts w' y) → Done text w' f 0 0 s.counts
+  pub ended : {w' : List ℕ} → length text ≤ s.at → ((n : Network) (y : List Float) → Holds text n s.counts w y → Holds text (resolved n) s.counts w' y) → Done text w' f None s.counts
   unfolding strict_of ending end_verdict unless settle told network_in inp
   ended {w'} h res =
       let e : strict_of text ≡ accepted (resolved g.m.recs) = going-ends inp false Passed no_network text g.going h in (

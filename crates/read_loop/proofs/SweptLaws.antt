@@ -20,6 +20,13 @@ use Rattle.scope.specs.Lines.{inp}
 use Rattle.scope.specs.Reading.{at_start, marks_of, surveyed, survey_of}
 use Rattle.table_rows.specs.Holding.{Holds}
 use Rattle.read_steps.specs.Held.{Model, Carries, Stepped, Goes, new_state}
+use borrow.Author.Tests.{ne_eqb}
+use Rattle.std.specs.Prelude.{Option, None, Some, IfSome}
+use Rattle.scope.specs.Answers.{reason_no}
+use Rattle.read_marks.specs.declared.Closed.{Closed}
+use Rattle.read_marks.specs.declared.Refusal.{Refusal}
+use Rattle.read_marks.specs.Marked.{closed_no, refused_no, closed_in, refused_in}
+use Rattle.read_steps.proofs.StepLaws.{some-reason}
 use Rattle.read_steps.specs.declared.State.{State}
 use Rattle.read_steps.specs.declared.Turn.{Turn}
 use Rattle.read_marks.specs.Counted.{counted}
@@ -59,26 +66,48 @@ module _ {text : List ℕ} {nc nr : ℕ} {w : List ℕ} {f : List Float} {c r : 
   stepped : Stepped text s l q.m o t w' f'
   stepped = go q.m q.stands
 
-  pub class-asks : (t.closed ≡ 0 → ⊥) → (0 < t.piece) × (t.piece ≤ s.line)
-  class-asks z = loops.class-asks inp false Passed no_network text q.swept stepped.tells z
+  pub class-asks : IfSome t.closed (λ c. (0 < c.first) × (c.first ≤ s.line))
+  class-asks = by t.closed refl stepped.named.closed
+    where
+      by : (x : Option Closed) → t.closed ≡ x → IfSome x (λ c. (c.first ≡ stepped.piece) × (c.class ≡ 0 → ⊥)) → IfSome x (λ c. (0 < c.first) × (c.first ≤ s.line))
+      by None e n = tt
+      by (Some c) e n =
+          let p = loops.class-asks inp false Passed no_network text q.swept stepped.tells (λ z. n.1 (sym (ap closed_no e) ∙ z)) in
+          (omega (arith, p.0, n.0), omega (arith, p.1, n.0))
 
-  pub reason-asks : (t.reason ≡ 0 → ⊥) → (0 < t.piece) × (t.piece ≤ nr)
-  reason-asks z = let p = loops.reason-asks inp false Passed no_network text q.swept stepped.tells z in (p.0, omega (arith, p.1, q.stands.line))
+  pub reason-asks : IfSome t.refused (λ x. (0 < x.piece) × (x.piece ≤ nr))
+  reason-asks = by t.refused refl stepped.named.refused
+    where
+      by : (x : Option Refusal) → t.refused ≡ x → IfSome x (λ r. r.piece ≡ stepped.piece) → IfSome x (λ r. (0 < r.piece) × (r.piece ≤ nr))
+      by None e n = tt
+      by (Some r) e n =
+          let p = loops.reason-asks inp false Passed no_network text q.swept stepped.tells (λ z. some-reason r.reason (sym (ap refused_no e) ∙ z)) in
+          (omega (arith, p.0, n), omega (arith, p.1, n, q.stands.line))
 
   pub line-asks : s.line < length c
   line-asks = omega (arith, q.long_c, q.stands.line)
 
-  pub swept-on : {c' r' : List ℕ}
-      → c' ≡ set (cond (eqb t.closed 0) c (refilled c (t.piece - 1) s.line t.closed)) s.line t.class → length c' ≡ length c
-      → r' ≡ cond (eqb t.reason 0) r (set r (t.piece - 1) t.reason) → length r' ≡ length r
+  -- the marks in the words of the numbers
+  classes-by : (x : Option Closed) → IfSome x (λ c. (c.first ≡ stepped.piece) × (c.class ≡ 0 → ⊥))
+      → closed_in x s.line c ≡ cond (eqb (closed_no x) 0) c (refilled c (stepped.piece - 1) s.line (closed_no x))
+  classes-by None n = refl
+  classes-by (Some x) n = rw (ne_eqb x.class 0 n.1) (ap (λ (i : ℕ). refilled c (i - 1) s.line x.class) n.0)
+
+  reasons-by : (x : Option Refusal) → IfSome x (λ x. x.piece ≡ stepped.piece)
+      → refused_in x r ≡ cond (eqb (refused_no x) 0) r (set r (stepped.piece - 1) (refused_no x))
+  reasons-by None n = refl
+  reasons-by (Some x) n = rw (ne_eqb (reason_no x.reason) 0 (some-reason x.reason)) (ap (λ (i : ℕ). set r (i - 1) (reason_no x.reason)) n)
+
+  pub swept-on : {c' r' : List ℕ} → c' ≡ set (closed_in t.closed s.line c) s.line t.class → length c' ≡ length c → r' ≡ refused_in t.refused r → length r' ≡ length r
       → Swept text nc nr w' f' c' r' t.state
   swept-on ec lc er lr =
       let st = stepped in
       let ic : s.line < nc = omega (arith, q.stands.line) in
       let ir : s.line < nr = omega (arith, q.stands.line) in
+      let ec' = ec ∙ ap (λ (x : List ℕ). set x s.line t.class) (classes-by t.closed st.named.closed) in
       record {
         m = next q.m l o;
-        swept = loops.swept-on inp false Passed no_network text q.swept st.tells h st.at st.line ic ir ec er;
+        swept = loops.swept-on inp false Passed no_network text q.swept st.tells h st.at st.line ic ir ec' (er ∙ reasons-by t.refused st.named.refused);
         stands = st.stands;
         long_c = lc ∙ q.long_c;
         long_r = lr ∙ q.long_r;

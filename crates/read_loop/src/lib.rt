@@ -1,24 +1,24 @@
 // Goes over the lines of a text: both readings are this one loop. Strict reading stops at the first piece that is refused; a survey goes on past it, and marks what each line is.
 #![tactic(auto)]
 
-ghost use Rattle.std.specs.Prelude.{◌≡◌, true, false, cond, ◌-◌, ◌≤◌, ◌<◌, length, set, eqb};
-ghost use Rattle.scope_lines.specs.Tables.{refilled};
+ghost use Rattle.std.specs.Prelude.{◌≡◌, true, false, cond, ◌-◌, ◌≤◌, ◌<◌, length, set, IfSome};
 ghost use Rattle.scope.specs.Records.{no_network, counts_of};
 ghost use Rattle.scope.specs.Sections.{room_text};
 ghost use Rattle.table_rows.specs.Holding.{Holds};
 ghost use Rattle.read_marks.specs.Filled.{filled};
+ghost use Rattle.read_marks.specs.Marked.{closed_in, refused_in};
 ghost use Rattle.read_loop.specs.Over.{Unmarked, Done, Overseen};
 
-use read_steps::State;
+use read_marks::Refusal;
+use read_steps::{State, Turn};
 use scope::Counts;
 
-// How many records the tables hold, how many lines were read, and the number and the line of a refusal that ended the reading, or 0 and 0.
+// How many records the tables hold, how many lines were read, and the refusal that ended the reading.
 #[derive(Clone, Copy)]
 pub struct Over {
     pub counts: Counts,
     pub lines: usize,
-    pub reason: u8,
-    pub piece: usize,
+    pub refused: Option<Refusal>,
 }
 
 // A survey marks lines one after another that are of one class.
@@ -32,23 +32,14 @@ fn mark_plain(marking: bool, classes: &mut [u8], from: usize, to: usize, class: 
 }
 
 // A survey marks a line, the group that it closed, and the piece that was refused.
-fn mark_turn(
-    marking: bool,
-    classes: &mut [u8],
-    reasons: &mut [u8],
-    piece: usize,
-    line: usize,
-    closed: u8,
-    class: u8,
-    reason: u8,
-)
-    requires { marking ≡ true → (line < length classes.old) × ((closed ≡ 0 → ⊥) → (0 < piece) × (piece ≤ line)) × ((reason ≡ 0 → ⊥) → (0 < piece) × (piece ≤ length reasons.old)) }
-    ensures { (classes.new ≡ cond marking (set (cond (eqb closed 0) classes.old (refilled classes.old (piece - 1) line closed)) line class) classes.old)
-        × (reasons.new ≡ cond marking (cond (eqb reason 0) reasons.old (set reasons.old (piece - 1) reason)) reasons.old) }
+fn mark_turn(marking: bool, classes: &mut [u8], reasons: &mut [u8], line: usize, t: Turn)
+    requires { marking ≡ true → (line < length classes.old) × IfSome t.closed (λ c. (0 < c.first) × (c.first ≤ line)) × IfSome t.refused (λ r. (0 < r.piece) × (r.piece ≤ length reasons.old)) }
+    ensures { (classes.new ≡ cond marking (set (closed_in t.closed line classes.old) line t.class) classes.old)
+        × (reasons.new ≡ cond marking (refused_in t.refused reasons.old) reasons.old) }
 {
     if marking {
-        read_marks::mark_class(classes, piece, line, closed, class);
-        read_marks::mark_reason(reasons, piece, reason);
+        read_marks::mark_class(classes, line, t.class, t.closed);
+        read_marks::mark_reason(reasons, t.refused);
     }
 }
 
@@ -62,10 +53,11 @@ pub fn go_over(
     reasons: &mut [u8],
 ) -> Over
     requires { (length text.now ≤ room_text) × Holds text.now no_network (counts_of no_network) words.old numbers.old × (marking ≡ true → Unmarked classes.old reasons.old) }
-    ensures { (marking ≡ false → Done text.now words.new numbers.new result.reason result.piece result.counts)
+    ensures { (marking ≡ false → Done text.now words.new numbers.new result.refused result.counts)
         × (marking ≡ true → Overseen text.now words.new numbers.new classes.new reasons.new result.lines result.counts) }
 {
     let mut s = State::new();
+    // Over the state, as in `read_runs`.
     while s.at < text.len() {
         let from = s.line;
         let plain = read_runs::plain_lines(text, s, words, numbers);
@@ -73,28 +65,21 @@ pub fn go_over(
         mark_plain(marking, classes, from, s.line, plain.class);
         if s.at < text.len() {
             let t = read_runs::turn_after(text, plain, words, numbers);
-            let reason = t.reason;
-            mark_turn(
-                marking, classes, reasons, t.piece, s.line, t.closed, t.class, reason,
-            );
+            mark_turn(marking, classes, reasons, s.line, t);
             s = t.state;
-            if read_marks::stops(marking, reason) {
-                let counts = s.counts;
+            if let Some(refusal) = read_marks::stops(marking, t.refused) {
                 return Over {
-                    counts,
+                    counts: s.counts,
                     lines: s.line,
-                    reason,
-                    piece: t.piece,
+                    refused: Some(refusal),
                 };
             }
         }
     }
-    let counts = s.counts;
-    read_end::resolve_pattern_indices(text, counts, words);
+    read_end::resolve_pattern_indices(text, s.counts, words);
     Over {
-        counts,
+        counts: s.counts,
         lines: s.line,
-        reason: 0,
-        piece: 0,
+        refused: None,
     }
 }

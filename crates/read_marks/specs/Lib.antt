@@ -1,3 +1,4 @@
 -- What the contracts of this crate cite.
 pub mod Counted
 pub mod Filled
+pub mod Marked

@@ -1,21 +1,33 @@
 // The classes and the reasons of the lines, in the bytes that the caller lends: a line marked, a closed group filled back, the classes counted.
 #![tactic(auto)]
 
-ghost use Rattle.std.specs.Prelude.{◌≡◌, true, false, cond, ◌-◌, ◌≤◌, ◌<◌, length, take, set, replicate, eqb};
-ghost use Rattle.scope_lines.specs.Tables.{swapped, refilled, count_in};
+ghost use Rattle.std.specs.Prelude.{◌≡◌, cond, ◌-◌, ◌≤◌, ◌<◌, length, take, set, replicate, ◌==◌, count_by, None, IfSome};
+ghost use Rattle.scope_lines.specs.Tables.{swapped, refilled};
 ghost use Rattle.read_marks.specs.Counted.{counted};
 ghost use Rattle.read_marks.specs.Filled.{filled};
+ghost use Rattle.read_marks.specs.Marked.{closed_in, refused_in};
 
-use scope::Survey;
+use scope::{Reason, Survey};
+use table_codes::Coded;
+
+// A piece that was refused: why, and the line that its reason stands at.
+#[derive(Clone, Copy)]
+pub struct Refusal {
+    pub reason: Reason,
+    pub piece: usize,
+}
+
+// A group that a line closed: the number of its first line, and its class. A class is the byte that stands in the caller's table (inp_read_survey), so it stays a number.
+#[derive(Clone, Copy)]
+pub struct Closed {
+    pub first: usize,
+    pub class: u8,
+}
 
 pub fn clear_bytes(bytes: &mut [u8])
     ensures { bytes.new ≡ replicate (length bytes.old) 0 }
 {
-    let mut i = 0;
-    while i < bytes.len() {
-        bytes[i] = 0;
-        i += 1;
-    }
+    bytes.fill(0);
 }
 
 fn swap(b: u8, k: u8) -> u8
@@ -29,10 +41,8 @@ fn refill(classes: &mut [u8], from: usize, to: usize, k: u8)
     requires { (from ≤ to) × (to ≤ length classes.old) }
     ensures { classes.new ≡ refilled classes.old from to k }
 {
-    let mut i = from;
-    while i < to {
-        classes[i] = swap(classes[i], k);
-        i += 1;
+    for class in classes[from..to].iter_mut() {
+        *class = swap(*class, k);
     }
 }
 
@@ -41,66 +51,41 @@ pub fn mark_lines(classes: &mut [u8], from: usize, to: usize, class: u8)
     requires { (from ≤ to) × (to ≤ length classes.old) }
     ensures { classes.new ≡ filled classes.old from (to - from) class }
 {
-    let mut i = from;
-    while i < to {
-        classes[i] = class;
-        i += 1;
-    }
+    classes[from..to].fill(class);
 }
 
 // The class of a line, and of the group that it closed.
-pub fn mark_class(classes: &mut [u8], piece: usize, line: usize, closed: u8, class: u8)
-    requires { (line < length classes.old) × ((closed ≡ 0 → ⊥) → (0 < piece) × (piece ≤ line)) }
-    ensures { classes.new ≡ set (cond (eqb closed 0) classes.old (refilled classes.old (piece - 1) line closed)) line class }
+pub fn mark_class(classes: &mut [u8], line: usize, class: u8, closed: Option<Closed>)
+    requires { (line < length classes.old) × IfSome closed (λ c. (0 < c.first) × (c.first ≤ line)) }
+    ensures { classes.new ≡ set (closed_in closed line classes.old) line class }
 {
-    if closed == 0 {
-        classes[line] = class;
-        return;
+    if let Some(group) = closed {
+        refill(classes, group.first - 1, line, group.class);
     }
-    refill(classes, piece - 1, line, closed);
     classes[line] = class;
 }
 
 // The reason of a refusal, at its piece.
-pub fn mark_reason(reasons: &mut [u8], piece: usize, reason: u8)
-    requires { (reason ≡ 0 → ⊥) → (0 < piece) × (piece ≤ length reasons.old) }
-    ensures { reasons.new ≡ cond (eqb reason 0) reasons.old (set reasons.old (piece - 1) reason) }
+pub fn mark_reason(reasons: &mut [u8], refused: Option<Refusal>)
+    requires { IfSome refused (λ r. (0 < r.piece) × (r.piece ≤ length reasons.old)) }
+    ensures { reasons.new ≡ refused_in refused reasons.old }
 {
-    if reason == 0 {
-        return;
+    if let Some(refusal) = refused {
+        reasons[refusal.piece - 1] = refusal.reason.code();
     }
-    reasons[piece - 1] = reason;
 }
 
-// Whether the reading stops at a line.
-pub fn stops(marking: bool, reason: u8) -> bool
-    ensures { (result ≡ true → (marking ≡ false) × (reason ≡ 0 → ⊥)) × (result ≡ false → marking ≡ false → reason ≡ 0) }
+// The refusal at which a reading stops: none where it marks lines, as it then goes on.
+pub fn stops(marking: bool, refused: Option<Refusal>) -> Option<Refusal>
+    ensures { result ≡ cond marking None refused }
 {
-    if marking {
-        return false;
-    }
-    if reason == 0 {
-        return false;
-    }
-    true
-}
-
-fn one(b: u8, k: u8) -> usize
-    ensures { result ≡ cond (eqb b k) 1 0 }
-{
-    if b == k { 1 } else { 0 }
+    if marking { None } else { refused }
 }
 
 fn count(xs: &[u8], k: u8) -> usize
-    ensures { result ≡ count_in k xs.now }
+    ensures { result ≡ count_by (λ x. x == k) xs.now }
 {
-    let mut n = 0;
-    let mut i = 0;
-    while i < xs.len() {
-        n += one(xs[i], k);
-        i += 1;
-    }
-    n
+    xs.iter().filter(|&&b| b == k).count()
 }
 
 // How many lines are of each class.

@@ -1,5 +1,4 @@
 -- A line that its section stores, or refuses, from what the code knows there. Assumes nothing.
-use Rattle.std.specs.Prelude.{Err, Ok, Result}
 use Prim.Native.Nat.{ℕ, ◌+◌, ◌≤◌}
 use native.Mathlib.Omega.{arith}
 use mathlib.Core.Path.{◌≡◌, refl, sym, ap, ◌∙◌}
@@ -20,7 +19,6 @@ use Rattle.scope.specs.declared.Section.TheVariants.{Junctions, Reservoirs, Tank
 use Rattle.scope.specs.declared.Counts.{Counts}
 use Rattle.scope.specs.declared.Reason.{Reason}
 use Rattle.scope.specs.Sections.{is_rules}
-use Rattle.scope.specs.Answers.{reason_no}
 use Rattle.scope.specs.Records.{Network}
 use Rattle.scope.specs.Values.{Read, bad}
 use Rattle.scope.specs.Lines.{sort_of, section_fields, verdict, step_of, inp}
@@ -29,7 +27,8 @@ use Rattle.table_rows.proofs.AfterLaws.{after-stored, after-refused}
 use Rattle.read_headers.specs.Own.{is_data}
 use Rattle.read_headers.specs.Sections.{passes_over}
 use Rattle.read_sections.specs.Storing.{line_step}
-use Rattle.read_steps.specs.Held.{Model, Carries, Fits, Goes, moved_to}
+use Rattle.read_steps.specs.Held.{Model, Carries, Fits, Goes, moved_to, quiet}
+use Rattle.std.specs.Prelude.{None, Some, Err, Ok, Result}
 use Rattle.read_steps.specs.declared.State.{State}
 use Rattle.read_steps.proofs.StepLaws.{never, taken_step, refused-step}
 use Rattle.read_steps.proofs.WayLaws.{becomes, data-own, data-sec}
@@ -90,7 +89,7 @@ module _ {text w : List ℕ} {f : List Float} {s : State} (fit : Fits text s w f
     module _ {w' : List ℕ} {f' : List Float} {k : Result Counts Reason}
         (ens : (n : Network) → Holds text n s.counts w f → After text (line_step s.section (fields_at (take end text) s.at) n) k w f w' f') where
       pub way-stored : {c : Counts} {st : State} → k ≡ Ok c → st ≡ moved_to s s.section c e
-          → Goes text s w f (step inp false) (record { state = st; class = 4; closed = 0; reason = 0; piece = s.line + 1 }) w' f'
+          → Goes text s w f (step inp false) (quiet st 4) w' f'
       way-stored {c} q es m hs =
           let o : Read Network = line_step s.section (fields_at (take end text) s.at) m.recs in
           let r = after-stored text w w' f f' o k c (ens m.recs hs.recs) q in
@@ -99,8 +98,10 @@ module _ {text w : List ℕ} {f : List Float} {s : State} (fit : Fits text s w f
       unchanged : {n : Reason} → k ≡ Err n → (m : Model) → Carries text s w f m → (line_step s.section (fields_at (take end text) s.at) m.recs ≡ bad n) × (w' ≡ w) × (f' ≡ f)
       unchanged {n} q m hs = after-refused text w w' f f' (line_step s.section (fields_at (take end text) s.at) m.recs) k n (ens m.recs hs.recs) q
 
-      pub way-refused : {n : Reason} {rs : ℕ} → k ≡ Err n → rs ≡ reason_no n
-          → (w' ≡ w) × (f' ≡ f) × Goes text s w f (step inp false) (record { state = moved_to s s.section s.counts e; class = 5; closed = 0; reason = rs; piece = s.line + 1 }) w f
-      way-refused {n} q er =
+      pub way-refused : {n : Reason} → k ≡ Err n
+          → (w' ≡ w) × (f' ≡ f)
+          × Goes text s w f (step inp false)
+          (record { state = moved_to s s.section s.counts e; class = 5; closed = None; refused = Some (record { reason = n; piece = s.line + 1 }) }) w f
+      way-refused {n} q =
           let r = unchanged q fit.m fit.stands in
-          (r.1, r.2, λ m hs. becomes (steps m hs ∙ ap (λ x. filed (verdict x)) (unchanged q m hs).0) (rw er (refused-step hs fit.more e he own sec n refl refl)))
+          (r.1, r.2, λ m hs. becomes (steps m hs ∙ ap (λ x. filed (verdict x)) (unchanged q m hs).0) (refused-step hs fit.more e he own sec n refl refl))

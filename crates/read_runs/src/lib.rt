@@ -9,16 +9,16 @@ ghost use Rattle.read_headers.specs.Sections.{passes_over};
 ghost use Rattle.read_steps.specs.Held.{Fits, Goes};
 ghost use Rattle.read_runs.specs.Onward.{Ready, Onward, LeftAt};
 
+use read_marks::Refusal;
 use read_steps::{State, Turn};
-use scope::Section;
+use scope::{Reason, Section};
 
-// Where the lines end that were read, and the class that each of them has. Where the next line is refused: the refusal's number, and the line's end; else 0 and 0.
+// Where the lines end that were read, and the class that each of them has; where the next line is refused, why, and its end. The class is the byte that stands in the caller's table (inp_read_survey), so it stays a number.
 #[derive(Clone, Copy)]
 pub struct PlainRun {
     pub state: State,
     pub class: u8,
-    pub reason: u8,
-    pub end: usize,
+    pub refused: Option<(Reason, usize)>,
 }
 
 // The lines that are stored, up to a blank line, a header, or one that is refused. Where the section is a constant, the compiler makes a loop for it.
@@ -31,9 +31,10 @@ fn file_lines(
 ) -> PlainRun
     requires { Ready text.now s words.old numbers.old × (section ≡ s.section) × (is_rules section ≡ false) × (passes_over section ≡ false) }
     ensures { Onward text.now result.class s words.old numbers.old result.state words.new numbers.new
-        × LeftAt text.now words.new numbers.new result.state result.reason result.end }
+        × LeftAt text.now words.new numbers.new result.state result.refused }
 {
     let mut t = s;
+    // Over the state: a line's end is found from where the last one ended, and a refusal leaves it; an iterator would carry the same and be no plainer.
     while t.at < text.len() {
         let at = t.at;
         let ends = leaf_scans::line_ends(text, at);
@@ -51,8 +52,7 @@ fn file_lines(
                     return PlainRun {
                         state: t,
                         class: table_codes::TAKEN,
-                        reason: table_codes::reason_number(r),
-                        end: e,
+                        refused: Some((r, e)),
                     };
                 }
             }
@@ -60,16 +60,14 @@ fn file_lines(
             return PlainRun {
                 state: t,
                 class: table_codes::TAKEN,
-                reason: 0,
-                end: 0,
+                refused: None,
             };
         }
     }
     PlainRun {
         state: t,
         class: table_codes::TAKEN,
-        reason: 0,
-        end: 0,
+        refused: None,
     }
 }
 
@@ -77,30 +75,29 @@ fn file_lines(
 fn join_lines(text: &[u8], s: State) -> PlainRun
     requires { (s.line ≤ s.at) × (length text.now ≤ room_text) × (is_rules s.section ≡ true) }
     ensures { (w : List ℕ) (f : List Float) → Ready text.now s w f
-        → Onward text.now result.class s w f result.state w f × LeftAt text.now w f result.state result.reason result.end }
+        → Onward text.now result.class s w f result.state w f × LeftAt text.now w f result.state result.refused }
 {
     let section = s.section;
     let mut t = s;
+    // Over the state, as in `file_lines`.
     while t.at < text.len() {
         let at = t.at;
         let e = leaf_scans::line_end(text, at);
-        if read_headers::is_joined(&text[..e], at, t.grouped) {
+        if read_headers::is_joined(&text[..e], at, t.group.is_some()) {
             let counts = t.counts;
             t = t.moved(section, counts, e);
         } else {
             return PlainRun {
                 state: t,
                 class: table_codes::RULE_OPEN,
-                reason: 0,
-                end: 0,
+                refused: None,
             };
         }
     }
     PlainRun {
         state: t,
         class: table_codes::RULE_OPEN,
-        reason: 0,
-        end: 0,
+        refused: None,
     }
 }
 
@@ -108,7 +105,7 @@ fn join_lines(text: &[u8], s: State) -> PlainRun
 pub fn plain_lines(text: &[u8], s: State, words: &mut [u64], numbers: &mut [f64]) -> PlainRun
     requires { Ready text.now s words.old numbers.old }
     ensures { Onward text.now result.class s words.old numbers.old result.state words.new numbers.new
-        × LeftAt text.now words.new numbers.new result.state result.reason result.end }
+        × LeftAt text.now words.new numbers.new result.state result.refused }
 {
     let section = s.section;
     match section {
@@ -128,28 +125,27 @@ pub fn plain_lines(text: &[u8], s: State, words: &mut [u64], numbers: &mut [f64]
         Section::Passed => PlainRun {
             state: s,
             class: table_codes::PASSED,
-            reason: 0,
-            end: 0,
+            refused: None,
         },
     }
 }
 
 // The line after those: it is refused, or a step reads it.
 pub fn turn_after(text: &[u8], run: PlainRun, words: &mut [u64], numbers: &mut [f64]) -> Turn
-    requires { Fits text.now run.state words.old numbers.old × LeftAt text.now words.old numbers.old run.state run.reason run.end }
+    requires { Fits text.now run.state words.old numbers.old × LeftAt text.now words.old numbers.old run.state run.refused }
     ensures { Goes text.now run.state words.old numbers.old (step inp false) result words.new numbers.new }
 {
     let s = run.state;
-    if run.reason == 0 {
+    let Some((reason, end)) = run.refused else {
         return read_steps::step(text, s, words, numbers);
-    }
-    let section = s.section;
-    let counts = s.counts;
+    };
     Turn {
-        state: s.moved(section, counts, run.end),
+        state: s.moved(s.section, s.counts, end),
         class: table_codes::REFUSED,
-        closed: 0,
-        reason: run.reason,
-        piece: s.line + 1,
+        closed: None,
+        refused: Some(Refusal {
+            reason,
+            piece: s.line + 1,
+        }),
     }
 }

@@ -26,6 +26,9 @@ use Rattle.scope.specs.Records.{Network}
 use Rattle.scope.specs.Lines.{sort_of}
 use Rattle.table_rows.specs.Holding.{Holds, Sound}
 use Rattle.read_steps.specs.Held.{Model, Group, Carries, Stepped, own_line, moved_to, joined_to, shut_to}
+use Rattle.std.specs.Prelude.{Option, None, Some, unwrap_or}
+use Rattle.std.proofs.lemmas.Option.{none-some, same_Some}
+use Rattle.read_steps.specs.declared.OpenGroup.{OpenGroup}
 use Rattle.read_steps.specs.declared.State.{State}
 use Rattle.read_steps.proofs.GroupLaws.{group-on, group-new}
 
@@ -74,43 +77,51 @@ module _ {text w : List ℕ} {f : List Float} {s : State} {m : Model} (hs : Carr
   line-le = omega (arith, end_more text s.at e h he, hs.line)
 
   -- a line that is not the group's own
-  on : (x : Section) → own_by is_rules k s.section ≡ false → sec_by k s.section ≡ x → s.grouped ≡ true
-      → Group text s.first s.no e x m.group
-  on x o z g =
-      subst (λ y. Group text s.first s.no e y m.group) z
-      (subst (λ y. Group text s.first s.no e (sec_by k s.section) y) (append-nil m.group)
-      (group-on text s.at e h he [] (hs.group g) (rw o) (rw o)))
+  on : (x : Section) → own_by is_rules k s.section ≡ false → sec_by k s.section ≡ x → (g : OpenGroup) → s.group ≡ Some g
+      → Group text g.first g.no e x m.group
+  on x o z g eg =
+      subst (λ y. Group text g.first g.no e y m.group) z
+      (subst (λ y. Group text g.first g.no e (sec_by k s.section) y) (append-nil m.group)
+      (group-on text s.at e h he [] (hs.group g eg) (rw o) (rw o)))
 
   pub still-step : (c : Still) (x : Section) → own_by is_rules k s.section ≡ false → sec_by k s.section ≡ x
-      → Stepped text s l m (still c x) (record { state = moved_to s x s.counts e; class = code (still_class c); closed = 0; reason = 0; piece = 0 }) w f
+      → Stepped text s l m (still c x) (record { state = moved_to s x s.counts e; class = code (still_class c); closed = None; refused = None }) w f
   unfolding next
   still-step c x o z = record {
     stands = record { sec = refl; none = hs.none; group = on x o z; recs = hs.recs; line = line-le; here = end-le text s.at e h he };
+    piece = 0;
     tells = tells-still m l c x;
+    named = record { closed = tt; refused = tt };
     at = long;
     line = refl;
   }
 
   -- a line that joins the group, or opens one
-  joined-group : own_by is_rules k s.section ≡ true → sec_by k s.section ≡ s.section → s.section ≡ Rules → (t : Bool) → s.grouped ≡ t
-      → Group text (cond t s.first s.at) (cond t s.no (s.line + 1)) e s.section (m.group ++ (l ∷ []))
-  joined-group o z r true g =
-      subst (λ y. Group text s.first s.no e y (m.group ++ (l ∷ []))) z (group-on text s.at e h he (l ∷ []) (hs.group g) (rw o) (rw o))
-  joined-group o z r false g = rw (hs.none g) (group-new text s.at e h he (s.line + 1) s.section r (omega arith) o z)
+  abbrev joined-group-of : Option OpenGroup → OpenGroup
+  joined-group-of t = unwrap_or t (record { first = s.at; no = s.line + 1 })
+
+  joined-group : own_by is_rules k s.section ≡ true → sec_by k s.section ≡ s.section → s.section ≡ Rules → (t : Option OpenGroup) → s.group ≡ t
+      → Group text (joined-group-of t).first (joined-group-of t).no e s.section (m.group ++ (l ∷ []))
+  joined-group o z r (Some g) eg =
+      subst (λ y. Group text g.first g.no e y (m.group ++ (l ∷ []))) z (group-on text s.at e h he (l ∷ []) (hs.group g eg) (rw o) (rw o))
+  joined-group o z r None eg = rw (hs.none eg) (group-new text s.at e h he (s.line + 1) s.section r (omega arith) o z)
 
   pub joins-step : own_by is_rules k s.section ≡ true → sec_by k s.section ≡ s.section → s.section ≡ Rules
-      → Stepped text s l m joins (record { state = joined_to s e; class = 8; closed = 0; reason = 0; piece = 0 }) w f
+      → Stepped text s l m joins (record { state = joined_to s e; class = 8; closed = None; refused = None }) w f
   unfolding next
   joins-step o z r = record {
     stands = record {
       sec = hs.sec;
-      none = λ g. never (sym g);
-      group = λ _. joined-group o z r s.grouped refl;
+      none = λ g. absurd (none-some _ (sym g));
+      group = λ g eg.
+          subst (λ (x : OpenGroup). Group text x.first x.no e s.section (m.group ++ (l ∷ []))) (same_Some _ _ eg) (joined-group o z r s.group refl);
       recs = hs.recs;
       line = line-le;
       here = end-le text s.at e h he;
     };
+    piece = 0;
     tells = tells-joins m l;
+    named = record { closed = tt; refused = tt };
     at = long;
     line = refl;
   }
@@ -121,24 +132,33 @@ module _ {text w : List ℕ} {f : List Float} {s : State} {m : Model} (hs : Carr
     stored-stands n c hd = record { sec = hs.sec; none = hs.none; group = on s.section o z; recs = hd; line = line-le; here = end-le text s.at e h he }
 
     pub taken_step : (n : Network) (c : Counts) → Holds text n c w' f'
-        → Stepped text s l m (filed (L.good n)) (record { state = moved_to s s.section c e; class = 4; closed = 0; reason = 0; piece = s.line + 1 }) w' f'
+        → Stepped text s l m (filed (L.good n)) (record { state = moved_to s s.section c e; class = 4; closed = None; refused = None }) w' f'
     unfolding next settle
-    taken_step n c hd = record { stands = stored-stands n c hd; tells = tells-taken m l n; at = long; line = refl }
+    taken_step n c hd = record {
+      stands = stored-stands n c hd;
+      piece = s.line + 1;
+      tells = tells-taken m l n;
+      named = record { closed = tt; refused = tt };
+      at = long;
+      line = refl;
+    }
 
     pub refused-step : (n : Reason) → w' ≡ w → f' ≡ f
-        → Stepped text s l m (filed (L.bad (reason_no n))) (record { state = moved_to s s.section s.counts e; class = 5; closed = 0; reason = reason_no n; piece = s.line + 1 }) w' f'
+        → Stepped text s l m (filed (L.bad (reason_no n))) (record { state = moved_to s s.section s.counts e; class = 5; closed = None; refused = Some (record { reason = n; piece = s.line + 1 }) }) w' f'
     unfolding next settle
     refused-step n ew ef = record {
       stands = stored-stands m.recs s.counts (rw (ew, ef) hs.recs);
+      piece = s.line + 1;
       tells = tells-refused m l (reason_no n) (some-reason n);
+      named = record { closed = tt; refused = refl };
       at = long;
       line = refl;
     }
 
   -- the group closes
-  module _ {w' : List ℕ} {f' : List Float} (g : s.grouped ≡ true) where
+  module _ {w' : List ℕ} {f' : List Float} (g : OpenGroup) (eg : s.group ≡ Some g) where
     shut-stands : (n : Network) (c : Counts) → Holds text n c w' f' → Carries text (shut_to s c e) w' f' (standing m.sec [] n)
-    shut-stands n c hd = record { sec = hs.sec; none = λ _. refl; group = never; recs = hd; line = line-le; here = end-le text s.at e h he }
+    shut-stands n c hd = record { sec = hs.sec; none = λ _. refl; group = λ x ex. absurd (none-some x ex); recs = hd; line = line-le; here = end-le text s.at e h he }
 
     closed-stands : (d : Bool) (v : L.Verdict Network) (c : Counts) → Holds text (settle v m.recs) c w' f' → Carries text (shut_to s c e) w' f' (next m l (closes v (own_line d m.sec)))
     unfolding next
@@ -146,21 +166,25 @@ module _ {text w : List ℕ} {f : List Float} {s : State} {m : Model} (hs : Carr
     closed-stands false v c hd = shut-stands (settle v m.recs) c hd
 
     pub closed-step : (d : Bool) (n : Network) (c : Counts) → Holds text n c w' f'
-        → Stepped text s l m (closes (L.good n) (own_line d m.sec)) (record { state = shut_to s c e; class = cond d 6 1; closed = 6; reason = 0; piece = s.no }) w' f'
+        → Stepped text s l m (closes (L.good n) (own_line d m.sec)) (record { state = shut_to s c e; class = cond d 6 1; closed = Some (record { first = g.no; class = 6 }); refused = None }) w' f'
     unfolding settle
     closed-step d n c hd = record {
       stands = closed-stands d (L.good n) c hd;
-      tells = retold (own-class d m.sec 6) (hs.group g).stretch.named (tells-group-taken m l n (own_line d m.sec));
+      piece = g.no;
+      tells = retold (own-class d m.sec 6) (hs.group g eg).stretch.named (tells-group-taken m l n (own_line d m.sec));
+      named = record { closed = (refl, λ z. omega arith); refused = tt };
       at = long;
       line = refl;
     }
 
     pub rejected-step : (d : Bool) (n : Reason) → w' ≡ w → f' ≡ f
-        → Stepped text s l m (closes (L.bad (reason_no n)) (own_line d m.sec)) (record { state = shut_to s s.counts e; class = cond d 7 1; closed = 7; reason = reason_no n; piece = s.no }) w' f'
+        → Stepped text s l m (closes (L.bad (reason_no n)) (own_line d m.sec)) (record { state = shut_to s s.counts e; class = cond d 7 1; closed = Some (record { first = g.no; class = 7 }); refused = Some (record { reason = n; piece = g.no }) }) w' f'
     unfolding settle
     rejected-step d n ew ef = record {
       stands = closed-stands d (L.bad (reason_no n)) s.counts (rw (ew, ef) hs.recs);
-      tells = retold (own-class d m.sec 7) (hs.group g).stretch.named (tells-group-refused m l (reason_no n) (some-reason n) (own_line d m.sec));
+      piece = g.no;
+      tells = retold (own-class d m.sec 7) (hs.group g eg).stretch.named (tells-group-refused m l (reason_no n) (some-reason n) (own_line d m.sec));
+      named = record { closed = (refl, λ z. omega arith); refused = refl };
       at = long;
       line = refl;
     }

@@ -1,5 +1,4 @@
 -- Each way through the functions of one line, from what the code knows there. Assumes nothing.
-use Rattle.std.specs.Prelude.{Err, Ok, Result}
 use Prim.Native.Nat.{ℕ, ◌+◌}
 use mathlib.Core.Path.{◌≡◌, refl, sym, ap, ◌∙◌, subst}
 use mathlib.Core.Bool.{Bool, true, false, cond}
@@ -33,6 +32,9 @@ use Rattle.read_headers.specs.declared.Sort.{Sort}
 use Rattle.read_headers.specs.declared.Sort.TheVariants as sort
 use Rattle.read_headers.proofs.OwnLaws.{own-rules, plain-sort}
 use Rattle.read_steps.specs.Held.{Model, Carries, Fits, Unstored, Stepped, Goes, own_line, closes_by, moved_to, joined_to, shut_to, quiet, plain_turn}
+use Rattle.std.specs.Prelude.{Option, None, Some, is_some, Err, Ok, Result}
+use Rattle.std.proofs.lemmas.Option.{none-some}
+use Rattle.read_steps.specs.declared.OpenGroup.{OpenGroup}
 use Rattle.read_steps.specs.declared.State.{State}
 use Rattle.read_steps.specs.declared.Turn.{Turn}
 use Rattle.read_steps.proofs.StepLaws.{never, still-step, joins-step, closed-step, rejected-step}
@@ -41,16 +43,25 @@ pub both : (a b : Bool) → cond a b false ≡ true → (a ≡ true) × (b ≡ t
 both true b z = (refl, z)
 both false b z = (z, never z)
 
+-- the group that is tested
+both-some : {A : Type 0} (a : Bool) (g : Option A) {x : A} → cond a g None ≡ Some x → (a ≡ true) × (g ≡ Some x)
+both-some true g z = (refl, z)
+both-some false g z = absurd (none-some _ z)
+
+some-of : {A : Type 0} (g : Option A) → is_some g ≡ true → (x : A) × (g ≡ Some x)
+some-of (Some x) z = (x, refl)
+some-of None z = never z
+
 -- where a group is open, to join it is to move on
-joined-open : (s : State) (e : ℕ) → s.grouped ≡ true → moved_to s s.section s.counts e ≡ joined_to s e
-joined-open s e g = rw g
+joined-open : (s : State) (e : ℕ) (g : OpenGroup) → s.group ≡ Some g → moved_to s s.section s.counts e ≡ joined_to s e
+joined-open s e g eg = rw eg
 
 -- a line closes a group only where one is open
-pub closes-open : (k : L.Sort Section) (x : Section) (g : Bool) → closes_by k x g ≡ true → g ≡ true
+pub closes-open : (k : L.Sort Section) (x : Section) (g : Option OpenGroup) {o : OpenGroup} → closes_by k x g ≡ Some o → g ≡ Some o
 closes-open empty x g z = z
-closes-open (heading y) x g z = never z
-closes-open start x g z = (both (is_rules x) g z).1
-closes-open other x g z = never z
+closes-open (heading y) x g z = absurd (none-some _ z)
+closes-open start x g z = (both-some (is_rules x) g z).1
+closes-open other x g z = absurd (none-some _ z)
 
 -- a line that is neither blank nor a header
 pub data-own : (k : L.Sort Section) → is_data k ≡ true → (x : Section) → own_by is_rules k x ≡ is_rules x
@@ -107,30 +118,30 @@ module _ {text w : List ℕ} {f : List Float} {s : State} (fit : Fits text s w f
   here = line_at text s.at (s.line + 1)
 
   -- ---- close
-  shut-is : (m : Model) → Carries text s w f m → s.grouped ≡ true → shut inp m ≡ verdict (group_step (group_fields text s.at s.first) m.recs)
+  shut-is : (m : Model) → Carries text s w f m → (g : OpenGroup) → s.group ≡ Some g → shut inp m ≡ verdict (group_step (group_fields text s.at g.first) m.recs)
   unfolding shut inp
-  shut-is m hs g =
-      let gr = hs.group g in
+  shut-is m hs g eg =
+      let gr = hs.group g eg in
       is_open-law m.group gr.stretch.named gr.stretch.some (verdict (group_step (map rule_fields m.group) m.recs)) (L.good m.recs)
       ∙ ap (λ x. verdict (group_step x m.recs)) gr.fields
 
-  module _ {w' : List ℕ} {f' : List Float} {k : Result Counts Reason} (d : Bool) (g : s.grouped ≡ true)
-      (ens : (n : Network) → Holds text n s.counts w f → After text (group_step (group_fields text s.at s.first) n) k w f w' f') where
+  module _ {w' : List ℕ} {f' : List Float} {k : Result Counts Reason} (d : Bool) (g : OpenGroup) (eg : s.group ≡ Some g)
+      (ens : (n : Network) → Holds text n s.counts w f → After text (group_step (group_fields text s.at g.first) n) k w f w' f') where
     pub way-closed : {c : Counts} {st : State} {cl : ℕ} → k ≡ Ok c → st ≡ shut_to s c e → cl ≡ cond d 6 1
-        → Goes text s w f (λ m l. closes (shut inp m) (own_line d m.sec)) (record { state = st; class = cl; closed = 6; reason = 0; piece = s.no }) w' f'
+        → Goes text s w f (λ m l. closes (shut inp m) (own_line d m.sec)) (record { state = st; class = cl; closed = Some (record { first = g.no; class = 6 }); refused = None }) w' f'
     way-closed {c} z es ec m hs =
-        let o : Read Network = group_step (group_fields text s.at s.first) m.recs in
+        let o : Read Network = group_step (group_fields text s.at g.first) m.recs in
         let p = after-stored text w w' f f' o k c (ens m.recs hs.recs) z in
-        becomes (ap (λ v. closes v (own_line d m.sec)) (shut-is m hs g ∙ verdict-good o p.1))
-        (rw (es, ec) (closed-step hs fit.more e he g d p.0 c p.2))
+        becomes (ap (λ v. closes v (own_line d m.sec)) (shut-is m hs g eg ∙ verdict-good o p.1))
+        (rw (es, ec) (closed-step hs fit.more e he g eg d p.0 c p.2))
 
-    pub way-rejected : {n : Reason} {st : State} {cl rs : ℕ} → k ≡ Err n → st ≡ shut_to s s.counts e → cl ≡ cond d 7 1 → rs ≡ reason_no n
-        → Goes text s w f (λ m l. closes (shut inp m) (own_line d m.sec)) (record { state = st; class = cl; closed = 7; reason = rs; piece = s.no }) w' f'
-    way-rejected {n} z es ec er m hs =
-        let o : Read Network = group_step (group_fields text s.at s.first) m.recs in
+    pub way-rejected : {n : Reason} {st : State} {cl : ℕ} → k ≡ Err n → st ≡ shut_to s s.counts e → cl ≡ cond d 7 1
+        → Goes text s w f (λ m l. closes (shut inp m) (own_line d m.sec)) (record { state = st; class = cl; closed = Some (record { first = g.no; class = 7 }); refused = Some (record { reason = n; piece = g.no }) }) w' f'
+    way-rejected {n} z es ec m hs =
+        let o : Read Network = group_step (group_fields text s.at g.first) m.recs in
         let p = after-refused text w w' f f' o k n (ens m.recs hs.recs) z in
-        becomes (ap (λ v. closes v (own_line d m.sec)) (shut-is m hs g ∙ verdict-bad o p.0))
-        (rw (es, ec, er) (rejected-step hs fit.more e he g d n p.1 p.2))
+        becomes (ap (λ v. closes v (own_line d m.sec)) (shut-is m hs g eg ∙ verdict-bad o p.0))
+        (rw (es, ec) (rejected-step hs fit.more e he g eg d n p.1 p.2))
 
   -- ---- the line, by its sort
   pub body-at : drop s.at (take e text) ≡ body_at text s.at
@@ -140,18 +151,18 @@ module _ {text w : List ℕ} {f : List Float} {s : State} (fit : Fits text s w f
   sort-here q = ap sort_of (sym body-at) ∙ sym q
 
   -- it closes the group
-  closing : (k : L.Sort Section) → closes_by k s.section s.grouped ≡ true → (m : Model) (l : Line) → Carries text s w f m
+  closing : (k : L.Sort Section) (g : OpenGroup) → closes_by k s.section s.group ≡ Some g → (m : Model) (l : Line) → Carries text s w f m
       → act inp false k (is_rules m.sec) m l ≡ closes (shut inp m) (own_line (own_by is_rules k s.section) m.sec)
   unfolding act
-  closing empty z m l hs =
-      let st = (hs.group z).stretch in
+  closing empty g z m l hs =
+      let st = (hs.group g z).stretch in
       is_open-law {X = Outcome Section Network} m.group st.named st.some (closes (shut inp m) (itself is_blank m.sec)) (still is_blank m.sec)
-  closing (heading y) z m l hs = never z
-  closing start z m l hs =
-      let b = both (is_rules s.section) s.grouped z in
-      let st = (hs.group b.1).stretch in
+  closing (heading y) g z m l hs = absurd (none-some _ z)
+  closing start g z m l hs =
+      let b = both-some (is_rules s.section) s.group z in
+      let st = (hs.group g b.1).stretch in
       rw (ap is_rules hs.sec ∙ b.0, b.0) (is_open-law {X = Outcome Section Network} m.group st.named st.some (closes (shut inp m) last) joins)
-  closing other z m l hs = never z
+  closing other g z m l hs = absurd (none-some _ z)
 
   -- it closes nothing, and is neither blank nor a header
   start-other : (m : Model) (l : Line) (t : Bool) → is_rules m.sec ≡ t → (t ≡ true → m.group ≡ [])
@@ -160,7 +171,7 @@ module _ {text w : List ℕ} {f : List Float} {s : State} (fit : Fits text s w f
   start-other m l true a b = rw (a, b refl)
   start-other m l false a b = rw a
 
-  as-other : (k : L.Sort Section) → is_data k ≡ true → closes_by k s.section s.grouped ≡ false → (m : Model) (l : Line) → Carries text s w f m
+  as-other : (k : L.Sort Section) → is_data k ≡ true → closes_by k s.section s.group ≡ None → (m : Model) (l : Line) → Carries text s w f m
       → act inp false k (is_rules m.sec) m l ≡ act inp false other (is_rules m.sec) m l
   as-other empty d z m l hs = never d
   as-other (heading y) d z m l hs = never d
@@ -196,20 +207,20 @@ module _ {text w : List ℕ} {f : List Float} {s : State} (fit : Fits text s w f
     steps-as : {x : Sort} → k ≡ x → (m : Model) → step inp false m here ≡ act inp false (sort_in x) (is_rules m.sec) m here
     steps-as q m = steps m ∙ ap (λ y. act inp false (sort_in y) (is_rules m.sec) m here) q
 
-    pub way-closes : {d : Bool} {r : Turn} {w' : List ℕ} {f' : List Float} → closes_by (sort_in k) s.section s.grouped ≡ true → d ≡ own_by is_rules (sort_in k) s.section
+    pub way-closes : {d : Bool} {g : OpenGroup} {r : Turn} {w' : List ℕ} {f' : List Float} → closes_by (sort_in k) s.section s.group ≡ Some g → d ≡ own_by is_rules (sort_in k) s.section
         → Goes text s w f (λ m l. closes (shut inp m) (own_line d m.sec)) r w' f' → Goes text s w f (step inp false) r w' f'
-    way-closes z ed go m hs = becomes (steps m ∙ closing (sort_in k) z m here hs ∙ ap (λ y. closes (shut inp m) (own_line y m.sec)) (sym ed)) (go m hs)
+    way-closes {g = g} z ed go m hs = becomes (steps m ∙ closing (sort_in k) g z m here hs ∙ ap (λ y. closes (shut inp m) (own_line y m.sec)) (sym ed)) (go m hs)
 
     pub way-header : {r : Turn} {x : Section} → k ≡ sort.Heading x → r ≡ quiet (moved_to s x s.counts e) 2 → Goes text s w f (step inp false) r w f
     unfolding still_class code
     way-header {x = x} q er m hs =
         becomes (steps-as q m ∙ headed m here (is_rules m.sec) x) (rw er (still-step hs fit.more e he is_header x (own_is q) (sec-is q)))
 
-    module _ (z : closes_by (sort_in k) s.section s.grouped ≡ false) where
+    module _ (z : closes_by (sort_in k) s.section s.group ≡ None) where
       pub way-blank : {r : Turn} → k ≡ sort.Empty → r ≡ quiet (moved_to s s.section s.counts e) 1 → Goes text s w f (step inp false) r w f
       unfolding still_class code
       way-blank q er m hs =
-          let g : s.grouped ≡ false = sym (ap (λ y. closes_by (sort_in y) s.section s.grouped) q) ∙ z in
+          let g : s.group ≡ None = sym (ap (λ y. closes_by (sort_in y) s.section s.group) q) ∙ z in
           becomes (steps-as q m ∙ blanks m here (is_rules m.sec) (hs.none g) ∙ ap (still is_blank) hs.sec)
           (rw er (still-step hs fit.more e he is_blank s.section (own_is q) (sec-is q)))
 
@@ -235,8 +246,9 @@ module _ {text w : List ℕ} {f : List Float} {s : State} (fit : Fits text s w f
               becomes (acts ∙ passes m here s.section hs.sec (u d a)) (rw q (still-step hs fit.more e he is_passed s.section (own ∙ a) sec))
 
   -- ---- a line that joins the open group
-  pub way-joined : {st : State} → is_rules s.section ≡ true → s.grouped ≡ true → plain_by (start_trimmed (drop s.at (take e text))) ≡ true → st ≡ moved_to s s.section s.counts e
+  pub way-joined : {st : State} → is_rules s.section ≡ true → is_some s.group ≡ true → plain_by (start_trimmed (drop s.at (take e text))) ≡ true → st ≡ moved_to s s.section s.counts e
       → Goes text s w f (step inp false) (quiet st 8) w f
   way-joined a g b es =
       let k : sort_of (body_at text s.at) ≡ other = sort-here (plain-sort (take e text) s.at (start_at (take e text) s.at) refl b) in
-      way-plain sort.Other k refl refl (λ _ y. never (sym y ∙ a)) (ap (λ x. quiet x 8) (es ∙ joined-open s e g) ∙ sym (plain_in a))
+      let o = some-of s.group g in
+      way-plain sort.Other k refl refl (λ _ y. never (sym y ∙ a)) (ap (λ x. quiet x 8) (es ∙ joined-open s e o.0 o.1) ∙ sym (plain_in a))

@@ -1,7 +1,7 @@
 // One line of a text: what it does to a reading, and to the tables that the caller lends.
 #![tactic(auto)]
 
-ghost use Rattle.std.specs.Prelude.{◌≡◌, true, false, cond, ◌+◌, ◌<◌, drop};
+ghost use Rattle.std.specs.Prelude.{◌≡◌, false, cond, ◌+◌, ◌<◌, drop, Some};
 ghost use Rattle.leaf_scans.specs.Lines.{line_len};
 ghost use Rattle.scope_lines.specs.Reader.{step, closes, shut};
 ghost use Rattle.scope_lines.specs.Text.{body_at};
@@ -12,28 +12,33 @@ ghost use Rattle.read_headers.specs.Own.{sort_in};
 ghost use Rattle.read_steps.specs.Held.{Fits, Unstored, Goes, own_line, moved_to, joined_to, shut_to, new_state, quiet, plain_turn, closes_by};
 
 use read_headers::Sort;
+use read_marks::{Closed, Refusal};
 use scope::{Counts, Section};
 
-// The reading: the section, the open group by its first line's place and number, the counts, and the next line.
+// The open group, by its first line: its place, and its number.
+#[derive(Clone, Copy)]
+pub struct OpenGroup {
+    pub first: usize,
+    pub no: usize,
+}
+
+// The reading: the section, the open group, the counts, and the next line.
 #[derive(Clone, Copy)]
 pub struct State {
     pub section: Section,
-    pub grouped: bool,
-    pub first: usize,
-    pub no: usize,
+    pub group: Option<OpenGroup>,
     pub counts: Counts,
     pub at: usize,
     pub line: usize,
 }
 
-// What a line did: its class, the class of the group that it closed or 0, the number of a refusal or 0, and the piece's line.
+// What a line did: its class, the group that it closed, and why the piece that it ended was refused. The class is the byte that stands in the caller's table (inp_read_survey), so it stays a number.
 #[derive(Clone, Copy)]
 pub struct Turn {
     pub state: State,
     pub class: u8,
-    pub closed: u8,
-    pub reason: u8,
-    pub piece: usize,
+    pub closed: Option<Closed>,
+    pub refused: Option<Refusal>,
 }
 
 pub fn no_counts() -> Counts
@@ -58,13 +63,10 @@ impl State {
     pub fn new() -> Self
         ensures { result ≡ new_state }
     {
-        let counts = no_counts();
         State {
             section: Section::Passed,
-            grouped: false,
-            first: 0,
-            no: 0,
-            counts,
+            group: None,
+            counts: no_counts(),
             at: 0,
             line: 0,
         }
@@ -77,9 +79,7 @@ impl State {
     {
         State {
             section,
-            grouped: self.grouped,
-            first: self.first,
-            no: self.no,
+            group: self.group,
             counts,
             at: e,
             line: self.line + 1,
@@ -91,27 +91,15 @@ impl State {
         requires { self.line < room_lines }
         ensures { result ≡ joined_to self e }
     {
-        let section = self.section;
-        let counts = self.counts;
-        if self.grouped {
-            return State {
-                section,
-                grouped: true,
-                first: self.first,
-                no: self.no,
-                counts,
-                at: e,
-                line: self.line + 1,
-            };
-        }
-        State {
-            section,
-            grouped: true,
+        let group = self.group.unwrap_or(OpenGroup {
             first: self.at,
             no: self.line + 1,
-            counts,
+        });
+        State {
+            group: Some(group),
             at: e,
             line: self.line + 1,
+            ..self
         }
     }
 
@@ -120,15 +108,12 @@ impl State {
         requires { self.line < room_lines }
         ensures { result ≡ shut_to self counts e }
     {
-        let section = self.section;
         State {
-            section,
-            grouped: false,
-            first: 0,
-            no: 0,
+            group: None,
             counts,
             at: e,
             line: self.line + 1,
+            ..self
         }
     }
 }
@@ -146,34 +131,48 @@ fn own_class(dropped: bool, k: u8) -> u8
 fn close(
     text: &[u8],
     s: State,
+    group: OpenGroup,
     e: usize,
     dropped: bool,
     words: &mut [u64],
     numbers: &mut [f64],
 ) -> Turn
-    requires { Fits text.now s words.old numbers.old × (e ≡ s.at + line_len (drop s.at text.now)) × (s.grouped ≡ true) }
+    requires { Fits text.now s words.old numbers.old × (e ≡ s.at + line_len (drop s.at text.now)) × (s.group ≡ Some group) }
     ensures { Goes text.now s words.old numbers.old (λ m l. closes (shut inp m) (own_line dropped m.sec)) result words.new numbers.new }
 {
-    let first = s.first;
-    let no = s.no;
-    let at = s.at;
-    let counts = s.counts;
-    let k = rule_store::close_group(text, first, at, counts, words, numbers);
+    let no = group.no;
+    let k = rule_store::close_group(text, group.first, s.at, s.counts, words, numbers);
     match k {
         Ok(c) => Turn {
             state: s.shut(c, e),
             class: own_class(dropped, table_codes::RULE_TAKEN),
-            closed: table_codes::RULE_TAKEN,
-            reason: 0,
-            piece: no,
+            closed: Some(Closed {
+                first: no,
+                class: table_codes::RULE_TAKEN,
+            }),
+            refused: None,
         },
-        Err(r) => Turn {
-            state: s.shut(counts, e),
+        Err(reason) => Turn {
+            state: s.shut(s.counts, e),
             class: own_class(dropped, table_codes::RULE_REFUSED),
-            closed: table_codes::RULE_REFUSED,
-            reason: table_codes::reason_number(r),
-            piece: no,
+            closed: Some(Closed {
+                first: no,
+                class: table_codes::RULE_REFUSED,
+            }),
+            refused: Some(Refusal { reason, piece: no }),
         },
+    }
+}
+
+// A line that closes no group and is not refused.
+fn quiet(state: State, class: u8) -> Turn
+    ensures { result ≡ quiet state class }
+{
+    Turn {
+        state,
+        class,
+        closed: None,
+        refused: None,
     }
 }
 
@@ -182,14 +181,7 @@ fn still(s: State, section: Section, e: usize, class: u8) -> Turn
     requires { s.line < room_lines }
     ensures { result ≡ quiet (moved_to s section s.counts e) class }
 {
-    let counts = s.counts;
-    Turn {
-        state: s.moved(section, counts, e),
-        class,
-        closed: 0,
-        reason: 0,
-        piece: 0,
-    }
+    quiet(s.moved(section, s.counts, e), class)
 }
 
 // A line that is neither blank nor a header and closes nothing: in RULES it joins its group, elsewhere it is passed over.
@@ -197,33 +189,26 @@ fn plain(s: State, e: usize) -> Turn
     requires { s.line < room_lines }
     ensures { result ≡ plain_turn s e }
 {
-    let section = s.section;
-    if read_headers::in_rules(section) {
-        return Turn {
-            state: s.joined(e),
-            class: table_codes::RULE_OPEN,
-            closed: 0,
-            reason: 0,
-            piece: 0,
-        };
+    if read_headers::in_rules(s.section) {
+        return quiet(s.joined(e), table_codes::RULE_OPEN);
     }
-    still(s, section, e, table_codes::PASSED)
+    still(s, s.section, e, table_codes::PASSED)
 }
 
-// Whether a line closes the open group: a blank one does, and in RULES one that starts with RULE.
-fn closes(k: Sort, section: Section, grouped: bool) -> bool
-    ensures { result ≡ closes_by (sort_in k) section grouped }
+// The open group, where the line closes it: a blank one does, and in RULES one that starts with RULE.
+fn closes(k: Sort, section: Section, group: Option<OpenGroup>) -> Option<OpenGroup>
+    ensures { result ≡ closes_by (sort_in k) section group }
 {
     match k {
-        Sort::Empty => grouped,
-        Sort::Heading(_) => false,
+        Sort::Empty => group,
+        Sort::Heading(_) => None,
         Sort::Start => {
             if read_headers::in_rules(section) {
-                return grouped;
+                return group;
             }
-            false
+            None
         }
-        Sort::Other => false,
+        Sort::Other => None,
     }
 }
 
@@ -239,13 +224,12 @@ fn take_turn(
     requires { Fits text.now s words.old numbers.old × (e ≡ s.at + line_len (drop s.at text.now)) × (sort_of (body_at text.now s.at) ≡ sort_in k) × Unstored (sort_in k) s.section }
     ensures { Goes text.now s words.old numbers.old (step inp false) result words.new numbers.new }
 {
-    let section = s.section;
-    if closes(k, section, s.grouped) {
-        let own = read_headers::own_by(k, section);
-        return close(text, s, e, own, words, numbers);
+    if let Some(group) = closes(k, s.section, s.group) {
+        let own = read_headers::own_by(k, s.section);
+        return close(text, s, group, e, own, words, numbers);
     }
     match k {
-        Sort::Empty => still(s, section, e, table_codes::BLANK),
+        Sort::Empty => still(s, s.section, e, table_codes::BLANK),
         Sort::Heading(x) => still(s, x, e, table_codes::HEADER),
         Sort::Start => plain(s, e),
         Sort::Other => plain(s, e),
@@ -257,8 +241,7 @@ pub fn step(text: &[u8], s: State, words: &mut [u64], numbers: &mut [f64]) -> Tu
     requires { Fits text.now s words.old numbers.old × Unstored (sort_of (body_at text.now s.at)) s.section }
     ensures { Goes text.now s words.old numbers.old (step inp false) result words.new numbers.new }
 {
-    let at = s.at;
-    let e = leaf_scans::line_end(text, at);
-    let k = read_headers::sort_of(&text[..e], at);
+    let e = leaf_scans::line_end(text, s.at);
+    let k = read_headers::sort_of(&text[..e], s.at);
     take_turn(text, s, e, k, words, numbers)
 }

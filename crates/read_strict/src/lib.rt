@@ -44,7 +44,7 @@ fn refusal(why: Reason) -> Answer
     ensures { result ≡ says (reason_no why) 0 }
 {
     Answer {
-        number: table_codes::reason_number(why),
+        number: why.code(),
         line: 0,
     }
 }

@@ -24,7 +24,7 @@ fn no_survey(why: Reason) -> Survey
     ensures { result ≡ no_survey (reason_no why) }
 {
     Survey {
-        number: table_codes::reason_number(why),
+        number: why.code(),
         lines: 0,
         blank: 0,
         header: 0,

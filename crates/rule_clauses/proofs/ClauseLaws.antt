@@ -1,13 +1,15 @@
 -- What a condition and an action are, from what the code was told. Assumes nothing.
 use Rattle.std.specs.Prelude.{None, Some, Option}
 use Prim.Native.Nat.{ℕ}
-use mathlib.Core.Path.{◌≡◌, refl, ap}
+use Rattle.std.specs.Prelude.{Err, IsErr, IsErrAnd, Result}
+use Rattle.std.proofs.lemmas.Result.{err_from_is_err_and}
+use Rattle.scope.specs.declared.Reason.{Reason}
+use mathlib.Core.Path.{◌≡◌, ◌∙◌, ap, refl}
 use mathlib.Core.Bool.{Bool, true, false, cond}
 use mathlib.Core.List.{List, [], ◌∷◌}
 use lib.ListN.{get_or}
-use Rattle.leaf_fields.specs.Fields.{Name, part, name_in, fields_at}
+use Rattle.leaf_fields.specs.Fields.{Name}
 use Rattle.leaf_letters.specs.Words.{same}
-use Rattle.leaf_fields.specs.declared.Span.{Span}
 use Rattle.scope.specs.declared.Target.{Target}
 use Rattle.scope.specs.declared.Value.{Value}
 use Rattle.scope.specs.declared.Operator.TheVariants as operator
@@ -15,16 +17,22 @@ use Rattle.scope.specs.declared.Reason.TheVariants.{Missing, NotFound, UnknownWo
 use Rattle.scope.specs.Records.{Network, link_ids, lookup, no_link}
 use Rattle.scope.specs.Spelling.{word_rule, word_if, word_and, word_or, word_then, word_else, word_priority, word_is}
 use Rattle.scope.specs.Values.{Read, good, bad, on_read, on_took, on_found, name_from}
-use Rattle.scope.specs.Rules.{aimed, named_from, kind_fits, action_of, deed_of, Draft, ruled, conditioned, acted, anded, ranked, line_of}
-use Rattle.rule_clauses.specs.declared.Named.{Named}
+use Rattle.scope.specs.Rules.{system_target, system_from, named_from, kind_fits, action_of, deed_of, Draft, ruled, conditioned, acted, anded, ranked, line_of}
 use Rattle.rule_clauses.specs.declared.RuleWord.TheVariants as word
-use Rattle.rule_clauses.specs.Clauses.{attribute_of, head_from, deed_from, action_with, action_at, rule_word, line_by}
+use Rattle.rule_clauses.specs.Clauses.{attribute_from, head_from, deed_from, action_with, action_at, rule_word, line_by}
 
--- an id and an attribute
-pub named-is : (k : Named) (l : List ℕ) (at : ℕ) (s t : Span) (o : Option Target) → fields_at l at ≡ name_in l s ∷ fields_at l s.end
-    → fields_at l s.end ≡ name_in l t ∷ fields_at l t.end → attribute_of k (part t.at t.end l) ≡ o
-    → named_from (attribute_of k) (fields_at l at) ≡ aimed (Some (name_in l s)) o (fields_at l t.end)
-named-is k l at s t o e f h = rw (e, f) (ap (λ (x : Option Target). aimed (Some (name_in l s)) x (fields_at l t.end)) h)
+-- what `?` hands on
+pub handed-on : {A : Type 0} {r : Result A Reason} {why : Reason} → IsErr r × IsErrAnd r (λ x. x ≡ why) → r ≡ Err why
+handed-on {A} {r} h = let (e, is, q) = err_from_is_err_and r h.1 in is ∙ ap Err q
+
+-- ---- targets
+pub system_is : (fs : List Name) → system_from fs ≡ attribute_from system_target None fs
+system_is [] = refl
+system_is (a ∷ fs) = refl
+
+pub named_is : (target : List ℕ → Option Target) (n : Name) (fs : List Name) → named_from target (n ∷ fs) ≡ attribute_from target (Some n) fs
+named_is target n [] = refl
+named_is target n (a ∷ fs) = refl
 
 -- ---- an action in its three parts
 deed-out : (i : ℕ) (id : Name) (otherwise : Bool) (fs : List Name)
@@ -93,7 +101,7 @@ line-by m d w fs =
         → cond a (ruled fs d) (cond b (conditioned operator.And fs d)
         (cond c (conditioned operator.Or fs d) (cond e (acted true d.otherwise false m fs d)
         (cond f (anded d.acting m fs d) (cond g (acted d.acting true true m fs d) (cond h (ranked fs d) (bad UnknownWord)))))))
-        ≡ line_by (cond a word.Rule (cond b word.If (cond c word.Or (cond e word.Then (cond f word.And (cond g word.Else (cond h word.Priority word.Unknown))))))) m d fs
+        ≡ line_by (cond a (Some word.Rule) (cond b (Some word.If) (cond c (Some word.Or) (cond e (Some word.Then) (cond f (Some word.And) (cond g (Some word.Else) (cond h (Some word.Priority) None))))))) m d fs
     go true b c e f g h = refl
     go false true c e f g h = refl
     go false false true e f g h = refl

@@ -1,9 +1,9 @@
 -- The code's answers as those of scope's Rules, and those of its definitions that the code reads in parts. Assumes nothing.
 use Rattle.scope.specs.declared.Reason.{Reason}
-use Rattle.std.specs.Prelude.{ℕ, Bool, true, false, cond, get_or, List, [], ◌∷◌, Err, None, Ok, Option, Result, Some}
+use Rattle.std.specs.Prelude.{ℕ, Bool, true, false, cond, get_or, IfOk, List, [], ◌∷◌, Err, None, Ok, Option, Result, Some}
 use Rattle.leaf_fields.specs.Fields.{Name, fields_at, name_in, Fits}
 pub use Rattle.leaf_fields.specs.Fields.{opt_in, MayFit}
-pub use Rattle.rule_values.specs.Values.{value_read}
+pub use Rattle.rule_values.specs.Values.{read_as, value_read}
 use Rattle.leaf_letters.specs.Words.{same}
 use Rattle.scope.specs.declared.Reason.TheVariants.{Missing}
 use Rattle.scope.specs.declared.Reason.TheVariants as reason
@@ -16,23 +16,25 @@ use Rattle.scope.specs.declared.Operator.TheVariants as operator
 use Rattle.scope.specs.Records.{Network, Condition, Action, no_link}
 use Rattle.scope.specs.Values.{Read, good, bad, on_read, Took, took, refused, on_took, on_found, name_from}
 use Rattle.scope.specs.Rules as R
-use Rattle.scope.specs.Rules.{node_target, tank_target, link_target, comparison_of, value_of, deed_of, kind_fits, Draft, ruled, conditioned, acted, anded, ranked}
-use Rattle.rule_clauses.specs.declared.Named.{Named}
-use Rattle.rule_clauses.specs.declared.Named.TheVariants.{Node, Tank, Link}
+use Rattle.scope.specs.Rules.{system_target, node_target, tank_target, link_target, comparison_of, value_of, deed_of, kind_fits, Draft, ruled, conditioned, acted, anded, ranked}
+use Rattle.rule_clauses.specs.declared.Owner.{Owner}
+use Rattle.rule_clauses.specs.declared.Owner.TheVariants.{System, Node, Tank, Link}
 use Rattle.rule_clauses.specs.declared.Aim.{Aim}
 use Rattle.rule_clauses.specs.declared.ActionHead.{ActionHead}
 use Rattle.rule_clauses.specs.declared.RuleWord.{RuleWord}
-use Rattle.rule_clauses.specs.declared.RuleWord.TheVariants.{Rule, If, Or, Then, And, Else, Priority, Unknown}
+use Rattle.rule_clauses.specs.declared.RuleWord.TheVariants.{Rule, If, Or, Then, And, Else, Priority}
 
 -- ---- targets
-abbrev pub attribute_read : Option Target → Option Target
-attribute_read (Some t) = Some t
-attribute_read None = None
-
-abbrev pub attribute_of : Named → List ℕ → Option Target
+abbrev pub attribute_of : Owner → List ℕ → Option Target
+attribute_of System w = system_target w
 attribute_of Node w = node_target w
 attribute_of Tank w = tank_target w
 attribute_of Link w = link_target w
+
+-- the attribute after SYSTEM, or after the id n
+abbrev pub attribute_from : (List ℕ → Option Target) → Option Name → List Name → Took R.Aim
+attribute_from target n [] = refused Missing
+attribute_from target n (a ∷ fs) = R.aimed n (target a.letters) fs
 
 abbrev pub aim_in : List ℕ → Aim → R.Aim
 aim_in l a = record { target = a.target; name = opt_in l a.name }
@@ -42,20 +44,17 @@ target_read l (Ok a) = took (aim_in l a) (fields_at l a.next)
 target_read l (Err why) = refused why
 
 abbrev pub TargetFits : List ℕ → Result Aim Reason → Type 0
-TargetFits l (Ok a) = MayFit l a.name
-TargetFits l (Err why) = Unit
+TargetFits l r = IfOk r (λ a. MayFit l a.name)
 
 -- ---- conditions
 abbrev pub condition_in : List ℕ → C.Condition → Condition
 condition_in l c = record { operator = c.operator; target = c.target; name = opt_in l c.name; comparison = c.comparison; value = c.value }
 
-abbrev pub condition_read : List ℕ → Result Condition Reason → Read Condition
-condition_read l (Ok c) = good (condition_in l c)
-condition_read l (Err why) = bad why
+abbrev pub condition_read : List ℕ → Result C.Condition Reason → Read Condition
+condition_read l = read_as (condition_in l)
 
-abbrev pub ConditionFits : List ℕ → Result Condition Reason → Type 0
-ConditionFits l (Ok c) = MayFit l c.name
-ConditionFits l (Err why) = Unit
+abbrev pub ConditionFits : List ℕ → Result C.Condition Reason → Type 0
+ConditionFits l r = IfOk r (λ c. MayFit l c.name)
 
 -- a condition on what is aimed at, by the fields after that: the comparison and the value
 unfoldable pub condition_on : Operator → R.Aim → List Name → Read Condition
@@ -83,12 +82,10 @@ head_read l (Ok h) = took (head_in l h) (fields_at l h.id.end)
 head_read l (Err why) = refused why
 
 abbrev pub HeadFits : List ℕ → Result ActionHead Reason → Type 0
-HeadFits l (Ok h) = Fits l h.kind × Fits l h.id
-HeadFits l (Err why) = Unit
+HeadFits l r = IfOk r (λ h. Fits l h.kind × Fits l h.id)
 
 abbrev pub kind_read : Result Unit Reason → Read Unit
-kind_read (Ok tt) = good tt
-kind_read (Err why) = bad why
+kind_read = read_as (λ u. u)
 
 unfoldable pub deed_from : List Name → Read Value
 deed_from fs =
@@ -110,23 +107,23 @@ action_at otherwise m h fs f =
     (bad reason.NotFound)
 
 -- ---- the first word of a line
-unfoldable pub rule_word : List ℕ → RuleWord
+unfoldable pub rule_word : List ℕ → Option RuleWord
 rule_word w =
-    cond (same w word_rule) Rule
-    (cond (same w word_if) If
-    (cond (same w word_or) Or
-    (cond (same w word_then) Then
-    (cond (same w word_and) And
-    (cond (same w word_else) Else
-    (cond (same w word_priority) Priority Unknown))))))
+    cond (same w word_rule) (Some Rule)
+    (cond (same w word_if) (Some If)
+    (cond (same w word_or) (Some Or)
+    (cond (same w word_then) (Some Then)
+    (cond (same w word_and) (Some And)
+    (cond (same w word_else) (Some Else)
+    (cond (same w word_priority) (Some Priority) None))))))
 
 -- a line, by its first word
-abbrev pub line_by : RuleWord → Network → Draft → List Name → Read Draft
-line_by Rule m d fs = ruled fs d
-line_by If m d fs = conditioned operator.And fs d
-line_by Or m d fs = conditioned operator.Or fs d
-line_by Then m d fs = acted true d.otherwise false m fs d
-line_by And m d fs = anded d.acting m fs d
-line_by Else m d fs = acted d.acting true true m fs d
-line_by Priority m d fs = ranked fs d
-line_by Unknown m d fs = bad reason.UnknownWord
+abbrev pub line_by : Option RuleWord → Network → Draft → List Name → Read Draft
+line_by (Some Rule) m d fs = ruled fs d
+line_by (Some If) m d fs = conditioned operator.And fs d
+line_by (Some Or) m d fs = conditioned operator.Or fs d
+line_by (Some Then) m d fs = acted true d.otherwise false m fs d
+line_by (Some And) m d fs = anded d.acting m fs d
+line_by (Some Else) m d fs = acted d.acting true true m fs d
+line_by (Some Priority) m d fs = ranked fs d
+line_by None m d fs = bad reason.UnknownWord

@@ -2,16 +2,16 @@
 // is a place of the text.
 #![tactic(auto)]
 
-ghost use Rattle.std.specs.Prelude.{◌≡◌};
+ghost use Rattle.std.specs.Prelude.{◌≡◌, cond, Some, None};
+ghost use Rattle.leaf_letters.specs.Words.{same};
 ghost use Rattle.leaf_fields.specs.Fields.{fields_at};
 ghost use Rattle.scope.specs.Records.{LinkKind};
-ghost use Rattle.scope.specs.Rules.{system_target, node_target, tank_target, link_target, is_link_word, system_from, named_from, aim_from, is_time, value_of, condition_of};
-ghost use Rattle.scope.specs.Rules.{of_kind, is_pipe, is_pump, is_valve, kind_fits};
-ghost use Rattle.rule_clauses.specs.Clauses.{attribute_read, attribute_of, target_read, TargetFits, aim_in, value_read, condition_read, ConditionFits};
+ghost use Rattle.scope.specs.Rules.{is_link_word, named_from, aim_from, is_time, value_of, condition_of};
+ghost use Rattle.scope.specs.Rules.{is_pipe, is_pump, is_valve, kind_fits};
+ghost use Rattle.rule_clauses.specs.Clauses.{attribute_of, attribute_from, opt_in, target_read, TargetFits, aim_in, value_read, condition_read, ConditionFits};
 ghost use Rattle.rule_clauses.specs.Clauses.{condition_on, head_from, head_read, HeadFits, kind_read, deed_from, rule_word, MayFit};
 
 use leaf_fields::Span;
-
 use scope::{
     Condition, LinkAttribute, LinkStatus, NodeAttribute, Operator, Reason, SystemAttribute,
     TankAttribute, Target, Value,
@@ -19,81 +19,64 @@ use scope::{
 
 // ---- the target of a condition
 
-fn system_target(w: &[u8]) -> Option<Target>
-    ensures { attribute_read result ≡ system_target w.now }
+// Of three attributes the one whose word it is.
+fn one_of<'a>(
+    w: &'a [u8],
+    a: (&'a [u8], Target),
+    b: (&'a [u8], Target),
+    c: (&'a [u8], Target),
+) -> Option<Target>
+    ensures { result ≡ cond (same w.now a.entry.0.now) (Some a.entry.1) (cond (same w.now b.entry.0.now) (Some b.entry.1) (cond (same w.now c.entry.0.now) (Some c.entry.1) None)) }
 {
-    if leaf_letters::equal(w, b"DEMAND") {
-        return Some(Target::System(SystemAttribute::Demand));
+    if leaf_letters::equal(w, a.0) {
+        return Some(a.1);
     }
-    if leaf_letters::equal(w, b"TIME") {
-        return Some(Target::System(SystemAttribute::Time));
+    if leaf_letters::equal(w, b.0) {
+        return Some(b.1);
     }
-    if leaf_letters::equal(w, b"CLOCKTIME") {
-        return Some(Target::System(SystemAttribute::Clocktime));
+    if leaf_letters::equal(w, c.0) {
+        return Some(c.1);
     }
     None
 }
 
-fn node_target(w: &[u8]) -> Option<Target>
-    ensures { attribute_read result ≡ node_target w.now }
-{
-    if leaf_letters::equal(w, b"DEMAND") {
-        return Some(Target::Node(NodeAttribute::Demand));
-    }
-    if leaf_letters::equal(w, b"HEAD") {
-        return Some(Target::Node(NodeAttribute::Head));
-    }
-    if leaf_letters::equal(w, b"PRESSURE") {
-        return Some(Target::Node(NodeAttribute::Pressure));
-    }
-    None
-}
-
-fn tank_target(w: &[u8]) -> Option<Target>
-    ensures { attribute_read result ≡ tank_target w.now }
-{
-    if leaf_letters::equal(w, b"LEVEL") {
-        return Some(Target::Tank(TankAttribute::Level));
-    }
-    if leaf_letters::equal(w, b"FILLTIME") {
-        return Some(Target::Tank(TankAttribute::Filltime));
-    }
-    if leaf_letters::equal(w, b"DRAINTIME") {
-        return Some(Target::Tank(TankAttribute::Draintime));
-    }
-    None
-}
-
-fn link_target(w: &[u8]) -> Option<Target>
-    ensures { attribute_read result ≡ link_target w.now }
-{
-    if leaf_letters::equal(w, b"FLOW") {
-        return Some(Target::Link(LinkAttribute::Flow));
-    }
-    if leaf_letters::equal(w, b"STATUS") {
-        return Some(Target::Link(LinkAttribute::Status));
-    }
-    if leaf_letters::equal(w, b"SETTING") {
-        return Some(Target::Link(LinkAttribute::Setting));
-    }
-    None
-}
-
-// The kinds of target that have an id.
+// What has attributes.
 #[derive(Clone, Copy)]
-enum Named {
+enum Owner {
+    System,
     Node,
     Tank,
     Link,
 }
 
-fn attribute(kind: Named, w: &[u8]) -> Option<Target>
-    ensures { attribute_read result ≡ attribute_of kind w.now }
+fn attribute(owner: Owner, w: &[u8]) -> Option<Target>
+    ensures { result ≡ attribute_of owner w.now }
 {
-    match kind {
-        Named::Node => node_target(w),
-        Named::Tank => tank_target(w),
-        Named::Link => link_target(w),
+    match owner {
+        Owner::System => one_of(
+            w,
+            (b"DEMAND", Target::System(SystemAttribute::Demand)),
+            (b"TIME", Target::System(SystemAttribute::Time)),
+            (b"CLOCKTIME", Target::System(SystemAttribute::Clocktime)),
+        ),
+        Owner::Node => one_of(
+            w,
+            (b"DEMAND", Target::Node(NodeAttribute::Demand)),
+            (b"HEAD", Target::Node(NodeAttribute::Head)),
+            (b"PRESSURE", Target::Node(NodeAttribute::Pressure)),
+        ),
+        Owner::Tank => one_of(
+            w,
+            (b"LEVEL", Target::Tank(TankAttribute::Level)),
+            (b"FILLTIME", Target::Tank(TankAttribute::Filltime)),
+            (b"DRAINTIME", Target::Tank(TankAttribute::Draintime)),
+        ),
+        Owner::Link => one_of(
+            w,
+            (b"FLOW", Target::Link(LinkAttribute::Flow)),
+            (b"STATUS", Target::Link(LinkAttribute::Status)),
+            (b"SETTING", Target::Link(LinkAttribute::Setting)),
+        ),
     }
 }
 
@@ -105,85 +88,57 @@ pub struct Aim {
     pub next: usize,
 }
 
-// The attribute after SYSTEM.
-fn system_from(l: &[u8], at: usize) -> Result<Aim, Reason>
-    ensures result_value { target_read l.now result ≡ system_from (fields_at l.now at) }
-    ensures target_fits { TargetFits l.now result }
+// The attribute after SYSTEM, or after the id that is `name`.
+fn attribute_from(l: &[u8], at: usize, owner: Owner, name: Option<Span>) -> Result<Aim, Reason>
+    ensures result_value { target_read l.now result ≡ attribute_from (attribute_of owner) (opt_in l.now name) (fields_at l.now at) }
+    ensures target_fits { MayFit l.now name → TargetFits l.now result }
 {
-    let f = leaf_fields::next_field(l, at);
-    let Some(s) = f else {
-        return Err(Reason::Missing);
-    };
-    let read = system_target(leaf_fields::letters_of(l, s));
-    match read {
-        Some(target) => Ok(Aim {
-            target,
-            name: None,
-            next: s.end,
-        }),
-        None => Err(Reason::UnknownWord),
-    }
+    let s = leaf_fields::next_field(l, at).ok_or(Reason::Missing)?;
+    let target = attribute(owner, leaf_fields::letters_of(l, s)).ok_or(Reason::UnknownWord)?;
+    Ok(Aim {
+        target,
+        name,
+        next: s.end,
+    })
 }
 
 // The id and the attribute after another word.
-fn named_from(l: &[u8], at: usize, kind: Named) -> Result<Aim, Reason>
-    ensures result_value { target_read l.now result ≡ named_from (attribute_of kind) (fields_at l.now at) }
+#[tactic(auto, using(crate::proofs::ClauseLaws::named_is))]
+fn named_from(l: &[u8], at: usize, owner: Owner) -> Result<Aim, Reason>
+    ensures result_value { target_read l.now result ≡ named_from (attribute_of owner) (fields_at l.now at) }
     ensures target_fits { TargetFits l.now result }
 {
-    let f = leaf_fields::next_field(l, at);
-    let Some(id) = f else {
-        return Err(Reason::Missing);
-    };
-    let g = leaf_fields::next_field(l, id.end);
-    let Some(s) = g else {
-        return Err(Reason::Missing);
-    };
-    let read = attribute(kind, leaf_fields::letters_of(l, s));
-    match read {
-        Some(target) => Ok(Aim {
-            target,
-            name: Some(id),
-            next: s.end,
-        }),
-        None => Err(Reason::UnknownWord),
-    }
+    let id = leaf_fields::next_field(l, at).ok_or(Reason::Missing)?;
+    attribute_from(l, id.end, owner, Some(id))
 }
 
 fn is_link_word(w: &[u8]) -> bool
     ensures { result ≡ is_link_word w.now }
 {
-    if leaf_letters::equal(w, b"LINK") {
-        return true;
-    }
-    if leaf_letters::equal(w, b"PIPE") {
-        return true;
-    }
-    if leaf_letters::equal(w, b"VALVE") {
-        return true;
-    }
-    leaf_letters::equal(w, b"PUMP")
+    leaf_letters::equal(w, b"LINK")
+        || leaf_letters::equal(w, b"PIPE")
+        || leaf_letters::equal(w, b"VALVE")
+        || leaf_letters::equal(w, b"PUMP")
 }
 
+#[tactic(auto, using(crate::proofs::ClauseLaws::system_is), unfolding(scope::specs::Rules::aim_from))]
 pub fn read_target(l: &[u8], at: usize) -> Result<Aim, Reason>
     ensures result_value { target_read l.now result ≡ aim_from (fields_at l.now at) }
     ensures target_fits { TargetFits l.now result }
 {
-    let f = leaf_fields::next_field(l, at);
-    let Some(s) = f else {
-        return Err(Reason::Missing);
-    };
+    let s = leaf_fields::next_field(l, at).ok_or(Reason::Missing)?;
     let w = leaf_fields::letters_of(l, s);
     if leaf_letters::equal(w, b"SYSTEM") {
-        return system_from(l, s.end);
+        return attribute_from(l, s.end, Owner::System, None);
     }
     if leaf_letters::equal(w, b"NODE") {
-        return named_from(l, s.end, Named::Node);
+        return named_from(l, s.end, Owner::Node);
     }
     if leaf_letters::equal(w, b"TANK") {
-        return named_from(l, s.end, Named::Tank);
+        return named_from(l, s.end, Owner::Tank);
     }
     if is_link_word(w) {
-        return named_from(l, s.end, Named::Link);
+        return named_from(l, s.end, Owner::Link);
     }
     Err(Reason::UnknownWord)
 }
@@ -193,26 +148,18 @@ pub fn read_target(l: &[u8], at: usize) -> Result<Aim, Reason>
 fn is_time(t: Target) -> bool
     ensures { result ≡ is_time t }
 {
-    match t {
-        Target::System(a) => match a {
-            SystemAttribute::Demand => false,
-            SystemAttribute::Time => true,
-            SystemAttribute::Clocktime => true,
-        },
-        Target::Node(_) => false,
-        Target::Tank(_) => false,
-        Target::Link(_) => false,
-    }
+    matches!(
+        t,
+        Target::System(SystemAttribute::Time | SystemAttribute::Clocktime)
+    )
 }
 
 // The value of a condition on the target.
+#[tactic(auto, unfolding(scope::specs::Rules::value_of))]
 pub fn read_value(target: Target, l: &[u8], at: usize) -> Result<Value, Reason>
     ensures { value_read result ≡ value_of target (fields_at l.now at) }
 {
-    let f = leaf_fields::next_field(l, at);
-    let Some(s) = f else {
-        return Err(Reason::Missing);
-    };
+    let s = leaf_fields::next_field(l, at).ok_or(Reason::Missing)?;
     let w = leaf_fields::letters_of(l, s);
     if leaf_letters::equal(w, b"OPEN") {
         return Ok(Value::Status(LinkStatus::Open));
@@ -232,43 +179,33 @@ pub fn read_value(target: Target, l: &[u8], at: usize) -> Result<Value, Reason>
 // ---- a condition
 
 // What stands after the target: the comparison and the value.
+#[tactic(auto, unfolding(crate::specs::Clauses::condition_on))]
 fn condition_on(l: &[u8], aim: Aim, operator: Operator) -> Result<Condition, Reason>
     ensures result_value { condition_read l.now result ≡ condition_on operator (aim_in l.now aim) (fields_at l.now aim.next) }
     ensures condition_fits { MayFit l.now aim.name → ConditionFits l.now result }
 {
-    let f = leaf_fields::next_field(l, aim.next);
-    let Some(s) = f else {
-        return Err(Reason::Missing);
-    };
-    let word = rule_values::read_comparison(leaf_fields::letters_of(l, s));
-    let Some(comparison) = word else {
-        return Err(Reason::UnknownWord);
-    };
-    let target = aim.target;
-    let name = aim.name;
-    let read = read_value(target, l, s.end);
-    match read {
-        Ok(value) => Ok(Condition {
-            operator,
-            target,
-            name,
-            comparison,
-            value,
-        }),
-        Err(why) => Err(why),
-    }
+    let s = leaf_fields::next_field(l, aim.next).ok_or(Reason::Missing)?;
+    let comparison = rule_values::read_comparison(leaf_fields::letters_of(l, s)).ok_or(
+        Reason::UnknownWord,
+    )?;
+    let value = read_value(aim.target, l, s.end)?;
+    Ok(Condition {
+        operator,
+        target: aim.target,
+        name: aim.name,
+        comparison,
+        value,
+    })
 }
 
 // The condition after a line's first word.
+#[tactic(auto, unfolding(scope::specs::Rules::condition_of, crate::specs::Clauses::condition_on))]
 pub fn read_rule_condition(l: &[u8], at: usize, operator: Operator) -> Result<Condition, Reason>
     ensures result_value { condition_read l.now result ≡ condition_of operator (fields_at l.now at) }
     ensures condition_fits { ConditionFits l.now result }
 {
-    let read = read_target(l, at);
-    match read {
-        Ok(aim) => condition_on(l, aim, operator),
-        Err(why) => Err(why),
-    }
+    let aim = read_target(l, at)?;
+    condition_on(l, aim, operator)
 }
 
 // ---- an action: what stands before the link is looked up, the kind of the link, and what stands after
@@ -284,69 +221,45 @@ pub fn read_action_head(l: &[u8], at: usize) -> Result<ActionHead, Reason>
     ensures result_value { head_read l.now result ≡ head_from (fields_at l.now at) }
     ensures head_fits { HeadFits l.now result }
 {
-    let f = leaf_fields::next_field(l, at);
-    let Some(kind) = f else {
-        return Err(Reason::Missing);
-    };
-    let g = leaf_fields::next_field(l, kind.end);
-    let Some(id) = g else {
-        return Err(Reason::Missing);
-    };
+    let kind = leaf_fields::next_field(l, at).ok_or(Reason::Missing)?;
+    let id = leaf_fields::next_field(l, kind.end).ok_or(Reason::Missing)?;
     Ok(ActionHead { kind, id })
 }
 
-fn of_kind(is: bool) -> Result<(), Reason>
-    ensures { kind_read result ≡ of_kind is }
-{
-    if is {
-        Ok(())
-    } else {
-        Err(Reason::WrongKind)
-    }
-}
-
 // Whether a link, which is a pipe, a pump or a valve, is of the kind that the word names.
+#[tactic(auto, unfolding(scope::specs::Rules::kind_fits))]
 pub fn kind_fits(w: &[u8], pipe: bool, pump: bool, valve: bool) -> Result<(), Reason>
     ensures { (k : LinkKind) → pipe ≡ is_pipe k → pump ≡ is_pump k → valve ≡ is_valve k → kind_read result ≡ kind_fits w.now k }
 {
-    if leaf_letters::equal(w, b"LINK") {
-        return Ok(());
-    }
-    if leaf_letters::equal(w, b"PIPE") {
-        return of_kind(pipe);
-    }
-    if leaf_letters::equal(w, b"VALVE") {
-        return of_kind(valve);
-    }
-    if leaf_letters::equal(w, b"PUMP") {
-        return of_kind(pump);
-    }
-    Err(Reason::UnknownWord)
+    let fits = if leaf_letters::equal(w, b"LINK") {
+        true
+    } else if leaf_letters::equal(w, b"PIPE") {
+        pipe
+    } else if leaf_letters::equal(w, b"VALVE") {
+        valve
+    } else if leaf_letters::equal(w, b"PUMP") {
+        pump
+    } else {
+        return Err(Reason::UnknownWord);
+    };
+    if fits { Ok(()) } else { Err(Reason::WrongKind) }
 }
 
 // What stands after the link's id: STATUS or SETTING, IS, and the value.
+#[tactic(auto, unfolding(crate::specs::Clauses::deed_from))]
 pub fn read_deed(l: &[u8], at: usize) -> Result<Value, Reason>
     ensures { value_read result ≡ deed_from (fields_at l.now at) }
 {
-    let f = leaf_fields::next_field(l, at);
-    let Some(what) = f else {
-        return Err(Reason::Missing);
-    };
-    let g = leaf_fields::next_field(l, what.end);
-    let Some(is) = g else {
-        return Err(Reason::Missing);
-    };
-    if leaf_letters::equal(leaf_fields::letters_of(l, is), b"IS") {
-        let h = leaf_fields::next_field(l, is.end);
-        let Some(v) = h else {
-            return Err(Reason::Missing);
-        };
-        return rule_values::deed(
-            leaf_fields::letters_of(l, what),
-            leaf_fields::letters_of(l, v),
-        );
+    let what = leaf_fields::next_field(l, at).ok_or(Reason::Missing)?;
+    let is = leaf_fields::next_field(l, what.end).ok_or(Reason::Missing)?;
+    if !leaf_letters::equal(leaf_fields::letters_of(l, is), b"IS") {
+        return Err(Reason::UnknownWord);
     }
-    Err(Reason::UnknownWord)
+    let v = leaf_fields::next_field(l, is.end).ok_or(Reason::Missing)?;
+    rule_values::deed(
+        leaf_fields::letters_of(l, what),
+        leaf_fields::letters_of(l, v),
+    )
 }
 
 // ---- the first word of a rule's line
@@ -360,32 +273,32 @@ pub enum RuleWord {
     And,
     Else,
     Priority,
-    Unknown,
 }
 
-pub fn rule_word(w: &[u8]) -> RuleWord
+#[tactic(auto, unfolding(crate::specs::Clauses::rule_word))]
+pub fn rule_word(w: &[u8]) -> Option<RuleWord>
     ensures { result ≡ rule_word w.now }
 {
     if leaf_letters::equal(w, b"RULE") {
-        return RuleWord::Rule;
+        return Some(RuleWord::Rule);
     }
     if leaf_letters::equal(w, b"IF") {
-        return RuleWord::If;
+        return Some(RuleWord::If);
     }
     if leaf_letters::equal(w, b"OR") {
-        return RuleWord::Or;
+        return Some(RuleWord::Or);
     }
     if leaf_letters::equal(w, b"THEN") {
-        return RuleWord::Then;
+        return Some(RuleWord::Then);
     }
     if leaf_letters::equal(w, b"AND") {
-        return RuleWord::And;
+        return Some(RuleWord::And);
     }
     if leaf_letters::equal(w, b"ELSE") {
-        return RuleWord::Else;
+        return Some(RuleWord::Else);
     }
     if leaf_letters::equal(w, b"PRIORITY") {
-        return RuleWord::Priority;
+        return Some(RuleWord::Priority);
     }
-    RuleWord::Unknown
+    None
 }

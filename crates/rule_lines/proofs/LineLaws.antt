@@ -1,8 +1,8 @@
 -- What a line of a group says, and what it makes of the draft. Assumes nothing.
 use Rattle.std.specs.Prelude.{None, Option, Some}
-use Prim.Native.Nat.{ℕ, ◌+◌, ◌≤◌}
+use Prim.Native.Nat.{ℕ, ◌+◌, ◌≤◌, ◌<◌}
 use native.Mathlib.Omega.{arith}
-use mathlib.Core.Path.{◌≡◌, refl, ap, ◌∙◌}
+use mathlib.Core.Path.{◌≡◌, refl, sym, ap, ◌∙◌}
 use mathlib.Core.Bool.{Bool, true, false}
 use mathlib.Core.List.{List, [], ◌∷◌}
 use lib.ListN.{length, take, get_or, length-append, length-take}
@@ -10,16 +10,22 @@ use Rattle.leaf_fields.specs.Fields.{Name, name_in, Fits}
 use Rattle.leaf_fields.specs.declared.Span.{Span}
 use Rattle.leaf_fields.proofs.FieldLaws.{part-take}
 use Rattle.scope.specs.declared.Operator.TheVariants as operator
-use Rattle.scope.specs.Records.{Network, Action, Clause, condition, action, with_clauses, no_link}
+use Rattle.scope.specs.Records.{Network, Action, Clause, link_ids, lookup, condition, action, with_clauses, no_link}
 use Rattle.scope.specs.Values.{Read, good, bad, on_read, count_from}
 use Rattle.scope.specs.Rules.{kind_fits, Draft, anded, action_of, condition_of, line_of}
 use Rattle.rule_clauses.specs.Clauses.{opt_in, MayFit, Head, deed_from, action_with, action_at, rule_word, line_by}
 use Rattle.rule_clauses.specs.declared.RuleWord.{RuleWord}
 use Rattle.rule_clauses.specs.declared.RuleWord.TheVariants as word
 use Rattle.rule_clauses.proofs.ClauseLaws.{line-by}
-use Rattle.rule_lines.specs.declared.LineRead.{LineRead}
-use Rattle.rule_lines.specs.declared.LineRead.TheVariants as line
-use Rattle.rule_lines.specs.Lines.{Said, said_id, said_rank, said_condition, said_action, with_said, and_said, said_by, said_of, said_read, LineFits}
+use Rattle.scope.specs.Layout.{record_words}
+use Rattle.scope.specs.Sections.{room_links}
+use Rattle.table_rows.specs.Holding.{Words}
+use Rattle.table_find.proofs.LookLaws.{found_below}
+use Rattle.table_rows.proofs.ReadLaws.{link-count}
+use Rattle.table_rows.proofs.EmptyLaws.{words_long}
+use Rattle.rule_lines.specs.declared.Saying.{Saying}
+use Rattle.rule_lines.specs.declared.Saying.TheVariants as saying
+use Rattle.rule_lines.specs.Lines.{Said, said_id, said_rank, said_condition, said_action, with_said, and_said, said_by, said_of, said_in, SayingFits}
 
 -- ---- one thing after another
 on_then : {A B C : Type 0} (x : Read A) (f : A → B) (g : B → C) → on_read x (λ a. good (g (f a))) ≡ on_read (on_read x (λ a. good (f a))) (λ b. good (g b))
@@ -31,16 +37,16 @@ and-said : (t : Bool) (m : Network) (d : Draft) (fs : List Name) → anded t m f
 and-said true m d fs = on_then (action_of d.otherwise m fs) (said_action true d.otherwise) (λ s. with_said s d)
 and-said false m d fs = on_then (condition_of operator.And fs) said_condition (λ s. with_said s d)
 
-by_said : (w : RuleWord) (m : Network) (d : Draft) (fs : List Name) → line_by w m d fs ≡ on_read (said_by w m d.acting d.otherwise fs) (λ s. good (with_said s d))
-by_said word.Rule m d [] = refl
-by_said word.Rule m d (n ∷ fs) = refl
-by_said word.If m d fs = on_then (condition_of operator.And fs) said_condition (λ s. with_said s d)
-by_said word.Or m d fs = on_then (condition_of operator.Or fs) said_condition (λ s. with_said s d)
-by_said word.Then m d fs = on_then (action_of false m fs) (said_action true d.otherwise) (λ s. with_said s d)
-by_said word.And m d fs = and-said d.acting m d fs
-by_said word.Else m d fs = on_then (action_of true m fs) (said_action d.acting true) (λ s. with_said s d)
-by_said word.Priority m d fs = on_then (count_from fs) said_rank (λ s. with_said s d)
-by_said word.Unknown m d fs = refl
+by_said : (w : Option RuleWord) (m : Network) (d : Draft) (fs : List Name) → line_by w m d fs ≡ on_read (said_by w m d.acting d.otherwise fs) (λ s. good (with_said s d))
+by_said (Some word.Rule) m d [] = refl
+by_said (Some word.Rule) m d (n ∷ fs) = refl
+by_said (Some word.If) m d fs = on_then (condition_of operator.And fs) said_condition (λ s. with_said s d)
+by_said (Some word.Or) m d fs = on_then (condition_of operator.Or fs) said_condition (λ s. with_said s d)
+by_said (Some word.Then) m d fs = on_then (action_of false m fs) (said_action true d.otherwise) (λ s. with_said s d)
+by_said (Some word.And) m d fs = and-said d.acting m d fs
+by_said (Some word.Else) m d fs = on_then (action_of true m fs) (said_action d.acting true) (λ s. with_said s d)
+by_said (Some word.Priority) m d fs = on_then (count_from fs) said_rank (λ s. with_said s d)
+by_said None m d fs = refl
 
 pub line-said : (m : Network) (d : Draft) (fs : List Name) → line_of m d fs ≡ on_read (said_of m d.acting d.otherwise fs) (λ s. good (with_said s d))
 unfolding line_of said_of
@@ -63,19 +69,17 @@ module _ (text : List ℕ) (end : ℕ) where
   opt-text (Some s) h = rw (name-text s h)
   opt-text None h = refl
 
-  pub line-fits-text : (r : LineRead) → LineFits (take end text) r → LineFits text r
-  line-fits-text (line.Named s) h = fits-text s h
-  line-fits-text (line.Ranked n) h = tt
-  line-fits-text (line.Condition c) h = may-text c.name h
-  line-fits-text (line.Action a) h = fits-text a.action.name h
-  line-fits-text (line.Refused why) h = tt
+  pub saying-fits-text : (s : Saying) → SayingFits (take end text) s → SayingFits text s
+  saying-fits-text (saying.Named s) h = fits-text s h
+  saying-fits-text (saying.Ranked n) h = tt
+  saying-fits-text (saying.Condition c) h = may-text c.name h
+  saying-fits-text (saying.Action a) h = fits-text a.action.name h
 
-  pub said-text : (r : LineRead) → LineFits (take end text) r → said_read (take end text) r ≡ said_read text r
-  said-text (line.Named s) h = rw (name-text s h)
-  said-text (line.Ranked n) h = refl
-  said-text (line.Condition c) h = rw (opt-text c.name h)
-  said-text (line.Action a) h = rw (name-text a.action.name h)
-  said-text (line.Refused why) h = refl
+  pub said-text : (s : Saying) → SayingFits (take end text) s → said_in (take end text) s ≡ said_in text s
+  said-text (saying.Named s) h = rw (name-text s h)
+  said-text (saying.Ranked n) h = refl
+  said-text (saying.Condition c) h = rw (opt-text c.name h)
+  said-text (saying.Action a) h = rw (name-text a.action.name h)
 
 -- ---- a line adds one clause at most
 pub clauses-more : (s : Said) (d : Draft) → (length d.clauses ≤ length (with_said s d).clauses) × (length (with_said s d).clauses ≤ length d.clauses + 1)
@@ -89,16 +93,16 @@ action-same : (o : Bool) (m : Network) (cs : List Clause) (fs : List Name) → a
 unfolding action_of
 action-same o m cs fs = refl
 
-by-same : (w : RuleWord) (m : Network) (cs : List Clause) (t u : Bool) (fs : List Name) → said_by w (with_clauses cs m) t u fs ≡ said_by w m t u fs
-by-same word.Rule m cs t u fs = refl
-by-same word.If m cs t u fs = refl
-by-same word.Or m cs t u fs = refl
-by-same word.Then m cs t u fs = ap (λ (x : Read Action). on_read x (λ a. good (said_action true u a))) (action-same false m cs fs)
-by-same word.And m cs true u fs = ap (λ (x : Read Action). on_read x (λ a. good (said_action true u a))) (action-same u m cs fs)
-by-same word.And m cs false u fs = refl
-by-same word.Else m cs t u fs = ap (λ (x : Read Action). on_read x (λ a. good (said_action t true a))) (action-same true m cs fs)
-by-same word.Priority m cs t u fs = refl
-by-same word.Unknown m cs t u fs = refl
+by-same : (w : Option RuleWord) (m : Network) (cs : List Clause) (t u : Bool) (fs : List Name) → said_by w (with_clauses cs m) t u fs ≡ said_by w m t u fs
+by-same (Some word.Rule) m cs t u fs = refl
+by-same (Some word.If) m cs t u fs = refl
+by-same (Some word.Or) m cs t u fs = refl
+by-same (Some word.Then) m cs t u fs = ap (λ (x : Read Action). on_read x (λ a. good (said_action true u a))) (action-same false m cs fs)
+by-same (Some word.And) m cs true u fs = ap (λ (x : Read Action). on_read x (λ a. good (said_action true u a))) (action-same u m cs fs)
+by-same (Some word.And) m cs false u fs = refl
+by-same (Some word.Else) m cs t u fs = ap (λ (x : Read Action). on_read x (λ a. good (said_action t true a))) (action-same true m cs fs)
+by-same (Some word.Priority) m cs t u fs = refl
+by-same None m cs t u fs = refl
 
 pub said_same : (m : Network) (cs : List Clause) (t u : Bool) (fs : List Name) → said_of (with_clauses cs m) t u fs ≡ said_of m t u fs
 unfolding said_of
@@ -106,6 +110,13 @@ said_same m cs t u [] = refl
 said_same m cs t u (w ∷ fs) = by-same (rule_word w.letters) m cs t u fs
 
 -- ---- an action whose link was found
+module _ {text words : List ℕ} {m : Network} (w : Words text m words) (name : List ℕ) {f : Option ℕ} (e : f ≡ lookup (link_ids m) name) {i : ℕ} (is : f ≡ Some i) where
+  pub link_below : i < length m.links
+  link_below = omega (arith, found_below (link_ids m) name (sym e ∙ is), link-count m)
+
+  pub link_safe : (i < room_links) × (length words ≡ record_words)
+  link_safe = (omega (arith, link_below, w.known.links.bound), words_long w)
+
 pub at-is : (otherwise : Bool) (m : Network) (h : Head) (fs : List Name) (f : Option ℕ) (i : ℕ) (fit : Read Unit) → f ≡ Some i → kind_fits h.kind.letters (get_or m.links i no_link).kind ≡ fit
     → action_at otherwise m h fs f ≡ on_read fit (λ u. on_read (deed_from fs) (λ v. good (action_with otherwise i h.id v)))
 at-is otherwise m h fs f i fit e k = rw (e, k)

@@ -21,6 +21,10 @@ order_of w =
     (cond (same w sign_at_least) (good AtLeast)
     (cond (same w sign_at_most) (good AtMost) (bad reason.UnknownWord))))
 
+-- the code's answer as the definitions have it: what was read, as `into` says it in their terms, or why it is refused
+abbrev pub read_as : {A B : Type 0} → (B → A) → Result B Reason → Read A
+read_as into (Ok b) = good (into b)
+read_as into (Err why) = bad why
+
 abbrev pub value_read : Result Value Reason → Read Value
-value_read (Ok v) = good v
-value_read (Err why) = bad why
+value_read = read_as (λ v. v)

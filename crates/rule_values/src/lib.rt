@@ -9,8 +9,6 @@ ghost use Rattle.scope.specs.Values.{as_number, on_read, as_time};
 ghost use Rattle.scope.specs.Rules.{comparison_of, seconds_value, number_value, status_value, deed_of};
 ghost use Rattle.rule_values.specs.Values.{comparison_read, order_of, value_read};
 
-use leaf_clock::TimeError;
-use leaf_decimals::NumberError;
 use scope::{Comparison, LinkStatus, Reason, Value};
 
 // ---- the comparison
@@ -19,13 +17,11 @@ use scope::{Comparison, LinkStatus, Reason, Value};
 fn either<'a>(w: &'a [u8], a: &'a [u8], b: &'a [u8]) -> bool
     ensures { result ≡ (same w.now a.now || same w.now b.now) }
 {
-    if leaf_letters::equal(w, a) {
-        return true;
-    }
-    leaf_letters::equal(w, b)
+    leaf_letters::equal(w, a) || leaf_letters::equal(w, b)
 }
 
 // The comparisons by size.
+#[tactic(auto, unfolding(crate::specs::Values::order_of))]
 fn order_comparison(w: &[u8]) -> Option<Comparison>
     ensures { comparison_read result ≡ order_of w.now }
 {
@@ -44,6 +40,7 @@ fn order_comparison(w: &[u8]) -> Option<Comparison>
     None
 }
 
+#[tactic(auto, unfolding(scope::specs::Rules::comparison_of, crate::specs::Values::order_of))]
 pub fn read_comparison(w: &[u8]) -> Option<Comparison>
     ensures { comparison_read result ≡ comparison_of w.now }
 {
@@ -71,24 +68,15 @@ fn seconds_value(n: u64) -> Result<Value, Reason>
 pub fn time_value(time: &[u8], unit: &[u8]) -> Result<Value, Reason>
     ensures { value_read result ≡ on_read (as_time (time_of time.now unit.now)) seconds_value }
 {
-    let t = leaf_clock::read_time(time, unit);
-    match t {
-        Ok(n) => seconds_value(n),
-        Err(TimeError::Malformed) => Err(Reason::Malformed),
-        Err(TimeError::Beyond) => Err(Reason::BeyondReach),
-        Err(TimeError::UnknownUnit) => Err(Reason::UnknownWord),
-    }
+    let n = leaf_clock::read_time(time, unit)?;
+    seconds_value(n)
 }
 
 pub fn number_value(w: &[u8]) -> Result<Value, Reason>
     ensures { value_read result ≡ number_value (as_number (number_of w.now) []) }
 {
-    let n = leaf_decimals::read_number(w);
-    match n {
-        Ok(x) => Ok(Value::Number(x)),
-        Err(NumberError::Malformed) => Err(Reason::Malformed),
-        Err(NumberError::Beyond) => Err(Reason::BeyondReach),
-    }
+    let x = leaf_decimals::read_number(w)?;
+    Ok(Value::Number(x))
 }
 
 fn status_value(w: &[u8]) -> Result<Value, Reason>
@@ -104,6 +92,7 @@ fn status_value(w: &[u8]) -> Result<Value, Reason>
 }
 
 // The value of an action, by its word STATUS or SETTING.
+#[tactic(auto, unfolding(scope::specs::Rules::deed_of))]
 pub fn deed<'a>(what: &'a [u8], value: &'a [u8]) -> Result<Value, Reason>
     ensures { (at : ℕ) → value_read result ≡ deed_of what.now (record { at = at; letters = value.now }) }
 {

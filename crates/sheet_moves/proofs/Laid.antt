@@ -1,5 +1,5 @@
 -- In every network that is read the rules lie end to end over the clauses, and each action's link is one of the links. Assumes nothing.
-use Rattle.std.specs.Prelude.{None, Some, Option}
+use Rattle.std.specs.Prelude.{None, Option, Some}
 use Prim.{Unit, tt}
 use Prim.Native.Nat.{ℕ, ◌+◌, ◌<◌, ◌≤◌}
 use native.Mathlib.Omega.{arith}

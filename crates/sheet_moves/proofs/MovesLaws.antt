@@ -1,5 +1,5 @@
 -- The loop's count is the definition's. Assumes nothing.
-use Prim.Native.Nat.{ℕ, suc, ◌+◌, ◌-◌, ◌*◌, ◌≤◌, ◌<◌}
+use Prim.Native.Nat.{ℕ, suc, ◌+◌, ◌-◌, ◌≤◌, ◌<◌}
 use native.Mathlib.Omega.{arith}
 use native.Mathlib.Numerals.{add-one}
 use mathlib.Core.Path.{◌≡◌, refl, sym, ap, ◌∙◌}
@@ -7,11 +7,9 @@ use mathlib.Core.Bool.{Bool, true, false, cond, ◌&&◌}
 use mathlib.Core.Logic.{inl, inr}
 use mathlib.Core.List.{List, [], ◌∷◌, ◌++◌}
 use lib.ListN.{length, get_or, take, drop, length-drop}
-use lib.Dec.{ltb}
 use lib.Seq.{take-suc, take_all, get_or-drop}
 use Rattle.leaf_decimals.proofs.Whole.{le-or-lt}
 use Rattle.scope.specs.Records.{Network, Clause, condition, action, Action, no_rule, no_clause}
-use Rattle.scope.specs.Sections.{room_clauses}
 use Rattle.scope.specs.declared.LinkStatus.TheVariants.{Open, Closed, Active}
 use Rattle.scope.specs.declared.Value.{Value}
 use Rattle.scope.specs.declared.Value.TheVariants.{Number, Status}
@@ -19,11 +17,10 @@ use Rattle.stored_records.specs.Back.{clause_back, rule_back}
 use Rattle.stored_records.specs.declared.Rule as ruleOut
 use Rattle.stored_records.specs.declared.Clause as clauseOut
 use Rattle.stored_records.specs.declared.Clause.TheVariants as clauseIs
-use Rattle.sheet_actions.specs.declared.Which.{Which}
-use Rattle.sheet_actions.specs.declared.Which.TheVariants.{Any}
+use Rattle.std.specs.Prelude.{Option, None}
 use Rattle.sheet_actions.specs.declared.Moves.{Moves}
 use Rattle.sheet_actions.specs.Steps.{is_branch, is_at, Few, with_move, with_clause}
-use Rattle.sheet_moves.specs.Moves.{closes, opens, activates, sets, chosen, one_if, how_many, moves_of, rule_moves, larger, made, made_at, made_below}
+use Rattle.sheet_moves.specs.Moves.{closes, opens, activates, sets, chosen, one_if, how_many, moves_of, rule_moves, made_at, made_below}
 
 -- ---- equal counts
 abbrev moves : ℕ → ℕ → ℕ → ℕ → Moves
@@ -55,14 +52,14 @@ with_it true (Status Open) n = moves-eq (omega arith) refl (omega arith) (omega 
 with_it true (Status Active) n = moves-eq (omega arith) (omega arith) refl (omega arith)
 with_it true (Number x) n = moves-eq (omega arith) (omega arith) (omega arith) refl
 
-one_more : (which : Which) (otherwise : Bool) (xs : List Clause) (x : Clause)
+one_more : (which : Option ℕ) (otherwise : Bool) (xs : List Clause) (x : Clause)
     → moves_of (chosen which otherwise) (xs ++ (x ∷ [])) ≡ with_clause which otherwise (moves_of (chosen which otherwise) xs) (clause_back x)
 one_more which otherwise xs (condition c) = moves-eq (one-condition _ xs c) (one-condition _ xs c) (one-condition _ xs c) (one-condition _ xs c)
 one_more which otherwise xs (action a) =
     moves-eq (one-action _ xs a) (one-action _ xs a) (one-action _ xs a) (one-action _ xs a) ∙ with_it (chosen which otherwise a) a.value (moves_of (chosen which otherwise) xs)
 
 -- ---- the loop
-module _ (which : Which) (otherwise : Bool) (cs : List Clause) (first : ℕ) where
+module _ (which : Option ℕ) (otherwise : Bool) (cs : List Clause) (first : ℕ) where
   abbrev pub sofar : ℕ → Moves
   sofar k = moves_of (chosen which otherwise) (take (k - first) (drop first cs))
 
@@ -77,8 +74,8 @@ module _ (which : Which) (otherwise : Bool) (cs : List Clause) (first : ℕ) whe
       rw (next, take-suc (drop first cs) (k - first) no_clause (omega (arith, length-drop first cs)), get_or-drop first cs (k - first) no_clause, here)
       (rw e (sym (one_more which otherwise (take (k - first) (drop first cs)) (get_or cs k no_clause))))
 
-  pub all-of-them : (k end : ℕ) (n : Moves) → first ≤ k → end ≤ k → k - first ≤ end - first → n ≡ sofar k → n ≡ sofar end
-  all-of-them k end n low past high e = let same : k - first ≡ end - first = omega arith in rw same at e
+  pub all-of-them : (k end : ℕ) {n : Moves} → k - first ≡ end - first → n ≡ sofar k → n ≡ sofar end
+  all-of-them k end same e = rw same at e
 
 -- ---- how large the counts are
 pub few-none : (k : ℕ) → Few k (moves 0 0 0 0)
@@ -94,12 +91,12 @@ few-with true (Status Open) h = record { closes = omega arith; opens = omega ari
 few-with true (Status Active) h = record { closes = omega arith; opens = omega arith; activates = omega arith; sets = omega arith }
 few-with true (Number x) h = record { closes = omega arith; opens = omega arith; activates = omega arith; sets = omega arith }
 
-pub few-more : (which : Which) (otherwise : Bool) (x : clauseOut.Clause) {k : ℕ} {n : Moves} → Few k n → Few (k + 1) (with_clause which otherwise n x)
+pub few-more : (which : Option ℕ) (otherwise : Bool) (x : clauseOut.Clause) {k : ℕ} {n : Moves} → Few k n → Few (k + 1) (with_clause which otherwise n x)
 few-more which otherwise (clauseIs.Condition c) h = few-within (omega arith) h
 few-more which otherwise (clauseIs.Action a) h = few-with (is_branch otherwise a.otherwise && is_at which a.link) a.value h
 
 -- ---- all clauses, and those of a rule
-pub whole : (which : Which) (otherwise : Bool) (cs : List Clause) {n : ℕ} → n ≡ length cs → sofar which otherwise cs 0 n ≡ moves_of (chosen which otherwise) cs
+pub whole : (which : Option ℕ) (otherwise : Bool) (cs : List Clause) {n : ℕ} → n ≡ length cs → sofar which otherwise cs 0 n ≡ moves_of (chosen which otherwise) cs
 whole which otherwise cs {n} e = rw (take_all (n - 0) cs (omega arith))
 
 rule-part : (cs : List Clause) (first count end : ℕ) → (length cs - first ≤ count → end ≡ length cs) → (count ≤ length cs - first → end - first ≡ count)
@@ -111,28 +108,11 @@ rule-part cs first count end all some =
     ]
 
 pub rule-is : (m : Network) (i : ℕ) (otherwise : Bool) {r : ruleOut.Rule} {all end : ℕ} → r ≡ rule_back (get_or m.rules i no_rule) → all ≡ length m.clauses
-    → (all - r.first ≤ r.count → end ≡ all) → (r.count ≤ all - r.first → end - r.first ≡ r.count) → sofar Any otherwise m.clauses r.first end ≡ rule_moves m i otherwise
+    → (all - r.first ≤ r.count → end ≡ all) → (r.count ≤ all - r.first → end - r.first ≡ r.count) → sofar None otherwise m.clauses r.first end ≡ rule_moves m i otherwise
 rule-is m i otherwise {r} {all} {end} e long full short =
     rw (rule-part m.clauses r.first r.count end (rw long at full) (rw long at short)) (rw e)
 
 -- ---- what a crew does
-abbrev two : Moves → Moves → ℕ
-two then otherwise = larger (then.closes + otherwise.closes) (then.opens + otherwise.opens)
-
-larger-below : (a b n : ℕ) → a ≤ n → b ≤ n → larger a b ≤ n
-larger-below a b n p q = either (ltb a b)
-  where
-    either : (t : Bool) → cond t b a ≤ n
-    either true = q
-    either false = p
-
-pub made-few : (then otherwise : Moves) → Few room_clauses then → Few room_clauses otherwise → two then otherwise ≤ 2 * room_clauses
-made-few then otherwise p q = larger-below (then.closes + otherwise.closes) (then.opens + otherwise.opens) (2 * room_clauses) (omega arith) (omega arith)
-
-pub made-is : (then otherwise : Moves) → Few room_clauses then → Few room_clauses otherwise → {r : ℕ} → r ≡ two then otherwise
-    → ((then.closes + otherwise.closes) + r ≤ 4 * room_clauses) × ((then.closes + otherwise.closes) + r ≡ made then otherwise)
-made-is then otherwise p q e = (omega (arith, made-few then otherwise p q, e), ap (λ (x : ℕ). (then.closes + otherwise.closes) + x) e)
-
 pub made_none : (m : Network) → 0 ≡ made_below m 0
 unfolding made_below
 made_none m = refl

@@ -14,8 +14,7 @@ use Rattle.scope_lines.specs.Text.{Each, nothing, each}
 use Rattle.scope.specs.Records.{Network, Rule, Clause, condition, action, Action, no_rule}
 use Rattle.scope.specs.declared.Value.{Value}
 use Rattle.scope.specs.Reading.{strict_network, survey_network}
-use Rattle.sheet_actions.specs.declared.Which.{Which}
-use Rattle.sheet_actions.specs.declared.Which.TheVariants.{Any, One}
+use Rattle.std.specs.Prelude.{Option, None, Some}
 use Rattle.sheet_actions.specs.Steps.{is_branch}
 use Rattle.sheet_moves.specs.Moves.{closes, opens, activates, sets, chosen, one_if, how_many, all_moves}
 use Rattle.sheet_moves.specs.Sums.{below, over_rules, over_links}
@@ -92,17 +91,17 @@ hit-once t u link (suc n) h =
     ]
 
 module _ (otherwise : Bool) (does : Value → Bool) (n : ℕ) where
-  abbrev asks : Which → Action → Bool
+  abbrev asks : Option ℕ → Action → Bool
   asks which a = chosen which otherwise a && does a.value
 
-  all-links : {cs : List Clause} → Each (LinkBelow n) cs → below (λ i. how_many (asks (One i)) cs) n ≡ how_many (asks Any) cs
+  all-links : {cs : List Clause} → Each (LinkBelow n) cs → below (λ i. how_many (asks (Some i)) cs) n ≡ how_many (asks None) cs
   unfolding how_many
   all-links nothing = below_none n
   all-links (each {x = condition c} p rest) = all-links rest
   all-links (each {x = action a} {xs = cs} p rest) =
-      below_both (λ i. one_if (asks (One i) a)) (λ i. how_many (asks (One i)) cs) n
-      ∙ ap (λ (k : ℕ). k + below (λ i. how_many (asks (One i)) cs) n) (hit-once (is_branch otherwise a.otherwise) (does a.value) a.link n p)
-      ∙ ap (λ (k : ℕ). one_if (asks Any a) + k) (all-links rest)
+      below_both (λ i. one_if (asks (Some i) a)) (λ i. how_many (asks (Some i)) cs) n
+      ∙ ap (λ (k : ℕ). k + below (λ i. how_many (asks (Some i)) cs) n) (hit-once (is_branch otherwise a.otherwise) (does a.value) a.link n p)
+      ∙ ap (λ (k : ℕ). one_if (asks None a) + k) (all-links rest)
 
 pub links-sum : (m : Network) (otherwise : Bool) → Laid m → over_links m otherwise ≡ all_moves m otherwise
 links-sum m otherwise w =

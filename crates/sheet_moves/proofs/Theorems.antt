@@ -9,8 +9,7 @@ use Rattle.scope.specs.Records.{Network, Clause, condition, action, Action, no_r
 use Rattle.scope.specs.declared.LinkStatus.TheVariants.{Open, Closed, Active}
 use Rattle.scope.specs.declared.Value.{Value}
 use Rattle.scope.specs.declared.Value.TheVariants.{Number, Status}
-use Rattle.sheet_actions.specs.declared.Which.{Which}
-use Rattle.sheet_actions.specs.declared.Which.TheVariants.{Any, One}
+use Rattle.std.specs.Prelude.{Option, None, Some}
 use Rattle.sheet_actions.specs.declared.Moves.{Moves}
 use Rattle.sheet_actions.specs.Steps.{is_at}
 use Rattle.sheet_moves.specs.Moves.{closes, opens, activates, sets, chosen, one_if, how_many, moves_of, clauses_of, rule_moves, link_moves, all_moves}
@@ -19,7 +18,7 @@ abbrev pub total : Moves → ℕ
 total n = n.closes + n.opens + n.activates + n.sets
 
 -- the actions of any link, or of one
-abbrev pub actions_of : Which → List Clause → ℕ
+abbrev pub actions_of : Option ℕ → List Clause → ℕ
 actions_of which cs = how_many (λ a. is_at which a.link) cs
 
 -- ---- an action does one of the four things
@@ -43,21 +42,21 @@ one-branch false true = refl
 one-branch true false = refl
 one-branch true true = refl
 
-branches-counted : (which : Which) (cs : List Clause) → how_many (chosen which false) cs + how_many (chosen which true) cs ≡ actions_of which cs
+branches-counted : (which : Option ℕ) (cs : List Clause) → how_many (chosen which false) cs + how_many (chosen which true) cs ≡ actions_of which cs
 unfolding how_many
 branches-counted which [] = refl
 branches-counted which (condition c ∷ cs) = branches-counted which cs
 branches-counted which (action a ∷ cs) = omega (arith, one-branch a.otherwise (is_at which a.link), branches-counted which cs)
 
-pub all-counted : (which : Which) (cs : List Clause) → total (moves_of (chosen which false) cs) + total (moves_of (chosen which true) cs) ≡ actions_of which cs
+pub all-counted : (which : Option ℕ) (cs : List Clause) → total (moves_of (chosen which false) cs) + total (moves_of (chosen which true) cs) ≡ actions_of which cs
 all-counted which cs = omega (arith, kinds-counted (chosen which false) cs, kinds-counted (chosen which true) cs, branches-counted which cs)
 
 -- ---- of a rule, of a link, of all rules
-pub rule-counted : (m : Network) (i : ℕ) → total (rule_moves m i false) + total (rule_moves m i true) ≡ actions_of Any (clauses_of m (get_or m.rules i no_rule))
-rule-counted m i = all-counted Any (clauses_of m (get_or m.rules i no_rule))
+pub rule-counted : (m : Network) (i : ℕ) → total (rule_moves m i false) + total (rule_moves m i true) ≡ actions_of None (clauses_of m (get_or m.rules i no_rule))
+rule-counted m i = all-counted None (clauses_of m (get_or m.rules i no_rule))
 
-pub link-counted : (m : Network) (i : ℕ) → total (link_moves m i false) + total (link_moves m i true) ≡ actions_of (One i) m.clauses
-link-counted m i = all-counted (One i) m.clauses
+pub link-counted : (m : Network) (i : ℕ) → total (link_moves m i false) + total (link_moves m i true) ≡ actions_of (Some i) m.clauses
+link-counted m i = all-counted (Some i) m.clauses
 
-pub rules-counted : (m : Network) → total (all_moves m false) + total (all_moves m true) ≡ actions_of Any m.clauses
-rules-counted m = all-counted Any m.clauses
+pub rules-counted : (m : Network) → total (all_moves m false) + total (all_moves m true) ≡ actions_of None m.clauses
+rules-counted m = all-counted None m.clauses

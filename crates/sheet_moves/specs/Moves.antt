@@ -1,5 +1,5 @@
 -- How often the stored rules close, open, activate and set links. Assumes nothing.
-use Rattle.std.specs.Prelude.{ℕ, zero, suc, ◌+◌, ◌≡◌, Bool, true, false, cond, ◌&&◌, List, [], ◌∷◌, ◌++◌, length, get_or, take, drop, ltb, Float}
+use Rattle.std.specs.Prelude.{ℕ, zero, suc, ◌+◌, ◌≡◌, Bool, true, false, cond, ◌&&◌, List, [], ◌∷◌, ◌++◌, length, get_or, take, drop, ltb, Float, Option, Some, None}
 use Rattle.scope.specs.Records.{Network, Rule, Clause, condition, action, Action, counts_of, no_rule}
 use Rattle.scope.specs.Tables.{tally_words}
 use Rattle.scope.specs.Layout.{record_words}
@@ -7,8 +7,6 @@ use Rattle.scope.specs.declared.LinkStatus.TheVariants.{Open, Closed, Active}
 use Rattle.scope.specs.declared.Value.{Value}
 use Rattle.scope.specs.declared.Value.TheVariants.{Number, Status}
 use Rattle.stored_records.specs.Back.{Stands}
-use Rattle.sheet_actions.specs.declared.Which.{Which}
-use Rattle.sheet_actions.specs.declared.Which.TheVariants.{Any, One}
 use Rattle.sheet_actions.specs.declared.Moves.{Moves}
 use Rattle.sheet_actions.specs.Steps.{is_branch, is_at}
 
@@ -44,7 +42,7 @@ sets (Status Active) = false
 sets (Number x) = true
 
 -- ---- which actions are meant: those under ELSE or those under THEN, of any link or of the link at a place
-abbrev pub chosen : Which → Bool → Action → Bool
+abbrev pub chosen : Option ℕ → Bool → Action → Bool
 chosen which otherwise a = is_branch otherwise a.otherwise && is_at which a.link
 
 -- ---- how many of the actions are as asked; a condition counts nothing
@@ -70,13 +68,13 @@ abbrev pub clauses_of : Network → Rule → List Clause
 clauses_of m r = take r.count (drop r.first m.clauses)
 
 abbrev pub rule_moves : Network → ℕ → Bool → Moves
-rule_moves m i otherwise = moves_of (chosen Any otherwise) (clauses_of m (get_or m.rules i no_rule))
+rule_moves m i otherwise = moves_of (chosen None otherwise) (clauses_of m (get_or m.rules i no_rule))
 
 abbrev pub link_moves : Network → ℕ → Bool → Moves
-link_moves m i otherwise = moves_of (chosen (One i) otherwise) m.clauses
+link_moves m i otherwise = moves_of (chosen (Some i) otherwise) m.clauses
 
 abbrev pub all_moves : Network → Bool → Moves
-all_moves m otherwise = moves_of (chosen Any otherwise) m.clauses
+all_moves m otherwise = moves_of (chosen None otherwise) m.clauses
 
 -- ---- what a crew does when every closure is opened again. At a link: its closings, and its openings or as many as its closings, whichever are more:
 -- each closure needs an opening, and an opening without a closure is a move too.

@@ -17,6 +17,7 @@ ghost use Rattle.store_links.specs.Storing.{link_in, ends_at, EndsAs};
 use leaf_fields::Span;
 use parse_pipes::{LinkLine, LinkNames};
 use scope::{Counts, Kind, LinkKind, Reason};
+use table_codes::Coded;
 
 // The places of the two nodes.
 #[tactic(auto, unfolding(scope::specs::Links::ends_of))]
@@ -42,7 +43,7 @@ fn kind_words(text: &[u8], kind: LinkKind) -> [u64; 4]
     match kind {
         LinkKind::Pipe(p) => [
             table_codes::PIPE,
-            table_codes::pipe_status_number(p.status),
+            p.status.code(),
             0,
             0,
         ],
@@ -59,7 +60,7 @@ fn kind_words(text: &[u8], kind: LinkKind) -> [u64; 4]
             let c = table_rows::name_words(text, v.curve);
             [
                 table_codes::VALVE,
-                table_codes::valve_type_number(v.valve_type),
+                v.valve_type.code(),
                 c[table_rows::NAME_PLACE],
                 c[table_rows::NAME_LENGTH],
             ]

@@ -18,8 +18,8 @@ use Rattle.scope.specs.Tables.{id_words, name_words, flag, index_no, kind_words,
 use Rattle.table_rows.specs.Table.{splice}
 use Rattle.scope.specs.Sections.{room_nodes}
 use Rattle.scope.specs.Layout.{nodes_at, nodes_width, node_placed, node_numbers_at, node_numbers_width, junction_emitter, node_x}
-use Rattle.table_rows.specs.Holding.{NodeFine, Holds, After, is_junction}
-use Rattle.table_rows.proofs.HoldLaws.{each_at, change-node, change-node-numbers, same-count-nodes}
+use Rattle.table_rows.specs.Holding.{NodeFine, Words, Holds, Sound, After, is_junction}
+use Rattle.table_rows.proofs.HoldLaws.{count-nodes, each_at, change-node, change-node-numbers, same-count-nodes}
 use Rattle.table_find.proofs.LookLaws.{found_below}
 use Rattle.table_rows.proofs.ReadLaws.{node-count}
 
@@ -101,3 +101,8 @@ module _ {text : List ℕ} {m : Network} {s : Counts} {w : List ℕ} {f : List F
         (kind-place-numbers n.kind n.place p.x p.y) ew ef
         in
         rw q (ap Ok (h.counts ∙ sym (same-count-nodes m i (standing n p))), held)
+
+-- a node that was found has a number below the room
+pub found-room : {text : List ℕ} {s : Counts} {w : List ℕ} {f : List Float} → Sound text s w f → (id : Span) {r : Option ℕ} {i : ℕ}
+    → ((m : Network) → Words text m w → s.nodes ≡ length m.nodes → r ≡ lookup (node_ids m) (part id.at id.end text)) → r ≡ Some i → i < room_nodes
+found-room k id e q = node-room k.holds id (sym (e k.m k.holds.words (count-nodes k.holds)) ∙ q)

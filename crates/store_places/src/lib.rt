@@ -24,12 +24,9 @@ fn store_emitter(
     ensures { (m : Network) → Holds text.now m s words.old numbers.old
         → After text.now (set_emitter (name_in text.now e.id) e.coefficient m) result words.old numbers.old words.new numbers.new }
 {
-    let found = table_find::node_named(text, words, s.nodes, e.id);
-    let Some(i) = found else {
-        return Err(Reason::NotFound);
-    };
+    let i = table_find::node_named(text, words, s.nodes, e.id).ok_or(Reason::NotFound)?;
     if table_find::is_junction(words, i) {
-        table_rows::paste_numbers(
+        table_rows::paste(
             numbers,
             table_rows::NODE_NUMBERS_AT
                 + i * table_rows::NODE_NUMBERS_WIDTH
@@ -54,16 +51,13 @@ fn store_coordinates(
         → After text.now (set_place (name_in text.now p.id) (record { x = p.x; y = p.y }) m) result words.old
         numbers.old words.new numbers.new }
 {
-    let found = table_find::node_named(text, words, s.nodes, p.id);
-    let Some(i) = found else {
-        return Err(Reason::NotFound);
-    };
-    table_rows::paste_words(
+    let i = table_find::node_named(text, words, s.nodes, p.id).ok_or(Reason::NotFound)?;
+    table_rows::paste(
         words,
         table_rows::NODES_AT + i * table_rows::NODES_WIDTH + table_rows::NODE_PLACED,
         &[1],
     );
-    table_rows::paste_numbers(
+    table_rows::paste(
         numbers,
         table_rows::NODE_NUMBERS_AT + i * table_rows::NODE_NUMBERS_WIDTH + table_rows::NODE_X,
         &[p.x, p.y],
@@ -86,11 +80,8 @@ pub fn emitter_line(
     ensures { (m : Network) → Holds text.now m s words.old numbers.old
         → After text.now (emitter_step (fields_at (take end text.now) at) m) result words.old numbers.old words.new numbers.new }
 {
-    let read = parse_pairs::read_emitter(&text[..end], at);
-    match read {
-        Ok(e) => store_emitter(text, e, s, words, numbers),
-        Err(why) => Err(why),
-    }
+    let e = parse_pairs::read_emitter(&text[..end], at)?;
+    store_emitter(text, e, s, words, numbers)
 }
 
 // The line of COORDINATES from `at` to `end`.
@@ -106,9 +97,6 @@ pub fn coordinates_line(
     ensures { (m : Network) → Holds text.now m s words.old numbers.old
         → After text.now (coordinates_step (fields_at (take end text.now) at) m) result words.old numbers.old words.new numbers.new }
 {
-    let read = parse_pairs::read_pair(&text[..end], at);
-    match read {
-        Ok(p) => store_coordinates(text, p, s, words, numbers),
-        Err(why) => Err(why),
-    }
+    let p = parse_pairs::read_pair(&text[..end], at)?;
+    store_coordinates(text, p, s, words, numbers)
 }

@@ -1,10 +1,8 @@
 -- How many records are as asked: those that belong to another, or the conditions and the actions among clauses. Assumes nothing.
-use Rattle.std.specs.Prelude.{ℕ, ◌+◌, ◌-◌, Bool, true, false, cond, List, [], ◌∷◌, map, take, drop, eqb}
+use Rattle.std.specs.Prelude.{ℕ, ◌+◌, ◌-◌, Bool, cond, List, [], ◌∷◌, map, take, drop, eqb}
 use Rattle.scope.specs.Records.{Network, Demand, Point, Multiplier}
 use Rattle.stored_parts.specs.declared.Part.{Part}
 use Rattle.stored_parts.specs.declared.Part.TheVariants as part
-use Rattle.stored_records.specs.declared.Clause.{Clause}
-use Rattle.stored_records.specs.declared.Clause.TheVariants.{Condition, Action}
 
 abbrev pub one_if : Bool → ℕ
 one_if b = cond b 1 0
@@ -26,8 +24,3 @@ is_place owner i = eqb i owner
 -- those from the place `first` up to the place `end`
 abbrev pub between : {A : Type 0} → ℕ → ℕ → List A → List A
 between first end xs = take (end - first) (drop first xs)
-
--- a clause as the code has it
-abbrev pub is_condition_out : Clause → Bool
-is_condition_out (Condition c) = true
-is_condition_out (Action a) = false

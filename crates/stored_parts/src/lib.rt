@@ -1,23 +1,16 @@
 // How many of the stored records belong to another: a junction's demands, a curve's points, a pattern's multipliers, a rule's conditions and actions.
 #![tactic(auto)]
 
-ghost use Rattle.std.specs.Prelude.{◌≡◌, List, ◌++◌, ℕ, ◌-◌, ◌≤◌, ◌<◌, length, get_or, drop};
+ghost use Rattle.std.specs.Prelude.{◌≡◌, List, ◌++◌, ℕ, ◌-◌, ◌≤◌, length, get_or, drop};
 ghost use Rattle.scope.specs.Layout.{record_words};
-ghost use Rattle.scope.specs.Records.{Network, counts_of};
+ghost use Rattle.scope.specs.Records.{Network, counts_of, no_clause};
 ghost use Rattle.scope.specs.Rules.{is_condition, is_action};
 ghost use Rattle.scope.specs.Tables.{tally_words};
 ghost use Rattle.stored_records.specs.Back.{Stands};
-ghost use Rattle.stored_parts.specs.Parts.{one_if, how_many, owners, is_place, between, is_condition_out};
+ghost use Rattle.stored_parts.specs.Parts.{how_many, owners, is_place, between};
 
+use stored_counts::Stored;
 use stored_records::Clause;
-
-// What a record adds to the count of those for which something holds.
-pub fn one_if(holds: bool) -> usize
-    ensures upper_bound { result ≤ 1 }
-    ensures value { result ≡ one_if holds }
-{
-    if holds { 1 } else { 0 }
-}
 
 // ---- the records that name the place of another
 
@@ -30,10 +23,10 @@ pub enum Part {
 }
 
 // How many records of the kind there are.
-fn how_many(words: &[u64], part: Part) -> usize
-    ensures { (m : Network) (rest : List ℕ) → drop record_words words.now ≡ tally_words (counts_of m) ++ rest → result ≡ length (owners part m) }
+fn how_many(stored: Stored, part: Part) -> usize
+    ensures { (m : Network) (rest : List ℕ) → drop record_words stored.entry.words.now ≡ tally_words (counts_of m) ++ rest → result ≡ length (owners part m) }
 {
-    let counts = stored_counts::counts_at(words);
+    let counts = stored.counts();
     match part {
         Part::Demand => counts.demands,
         Part::Point => counts.points,
@@ -41,86 +34,53 @@ fn how_many(words: &[u64], part: Part) -> usize
     }
 }
 
-// The place that record k of the kind names.
-fn owner_at(words: &[u64], numbers: &[f64], part: Part, k: usize) -> usize
-    ensures { (m : Network) → Stands m words.now numbers.now → k < length (owners part m) → result ≡ get_or (owners part m) k 0 }
+// The place that record k of the kind names; past the end, 0.
+fn owner_at(stored: Stored, part: Part, k: usize) -> usize
+    ensures { (m : Network) → Stands m stored.entry.words.now stored.entry.numbers.now → result ≡ get_or (owners part m) k 0 }
 {
     match part {
-        Part::Demand => {
-            let d = stored_series::demand_at(words, numbers, k);
-            d.node
-        }
-        Part::Point => {
-            let p = stored_series::point_at(words, numbers, k);
-            p.curve
-        }
-        Part::Multiplier => {
-            let x = stored_series::multiplier_at(words, numbers, k);
-            x.pattern
-        }
+        Part::Demand => stored_series::demand_at(stored, k).node,
+        Part::Point => stored_series::point_at(stored, k).curve,
+        Part::Multiplier => stored_series::multiplier_at(stored, k).pattern,
     }
 }
 
 // The records of the kind that name place `owner`: a junction's demands, a curve's points, a pattern's multipliers.
-pub fn parts_of(words: &[u64], numbers: &[f64], part: Part, owner: usize) -> usize
-    ensures { (m : Network) (rest : List ℕ) → Stands m words.now numbers.now
-        → drop record_words words.now ≡ tally_words (counts_of m) ++ rest → result ≡ how_many (is_place owner) (owners part m) }
+pub fn parts_of(stored: Stored, part: Part, owner: usize) -> usize
+    ensures { (m : Network) (rest : List ℕ) → Stands m stored.entry.words.now stored.entry.numbers.now
+        → drop record_words stored.entry.words.now ≡ tally_words (counts_of m) ++ rest → result ≡ how_many (is_place owner) (owners part m) }
 {
-    let all = how_many(words, part);
-    let mut n = 0;
-    let mut k = 0;
-    while k < all {
-        let o = owner_at(words, numbers, part, k);
-        n += one_if(o == owner);
-        k += 1;
-    }
-    n
+    (0..how_many(stored, part))
+        .filter(|k| owner_at(stored, part, *k) == owner)
+        .count()
 }
 
 // ---- conditions and actions
 
-fn is_condition(clause: Clause) -> bool
-    ensures { result ≡ is_condition_out clause }
+fn is_condition_at(stored: Stored, k: usize) -> bool
+    ensures { (m : Network) → Stands m stored.entry.words.now stored.entry.numbers.now → result ≡ is_condition (get_or m.clauses k no_clause) }
 {
-    match clause {
-        Clause::Condition(_) => true,
-        Clause::Action(_) => false,
-    }
+    matches!(stored_records::clause_at(stored, k), Clause::Condition(_))
 }
 
 // The conditions among the clauses from place `first` up to `end`.
-pub fn conditions_between(words: &[u64], numbers: &[f64], first: usize, end: usize) -> usize
+pub fn conditions_between(stored: Stored, first: usize, end: usize) -> usize
     ensures upper_bound { result ≤ end - first }
-    ensures value { (m : Network) → Stands m words.now numbers.now → end ≤ length m.clauses → result ≡ how_many is_condition (between first end m.clauses) }
+    ensures value { (m : Network) → Stands m stored.entry.words.now stored.entry.numbers.now → end ≤ length m.clauses → result ≡ how_many is_condition (between first end m.clauses) }
 {
-    let mut n = 0;
-    let mut k = first;
-    while k < end {
-        n += one_if(is_condition(stored_records::clause_at(words, numbers, k)));
-        k += 1;
-    }
-    n
+    (first..end).filter(|k| is_condition_at(stored, *k)).count()
 }
 
 // The other clauses are actions.
-pub fn actions_between(words: &[u64], numbers: &[f64], first: usize, end: usize) -> usize
-    ensures { (m : Network) → Stands m words.now numbers.now → end ≤ length m.clauses → result ≡ how_many is_action (between first end m.clauses) }
+pub fn actions_between(stored: Stored, first: usize, end: usize) -> usize
+    ensures { (m : Network) → Stands m stored.entry.words.now stored.entry.numbers.now → end ≤ length m.clauses → result ≡ how_many is_action (between first end m.clauses) }
 {
-    if end < first {
-        return 0;
-    }
-    end - first - conditions_between(words, numbers, first, end)
+    end.saturating_sub(first) - conditions_between(stored, first, end)
 }
 
 // Where `count` clauses from `first` on end, if there are `all`.
 pub fn end_of(first: usize, count: usize, all: usize) -> usize
     ensures { (result ≤ all) × (all - first ≤ count → result ≡ all) × (count ≤ all - first → result - first ≡ count) }
 {
-    if all <= first {
-        return all;
-    }
-    if all - first <= count {
-        return all;
-    }
-    first + count
+    first.saturating_add(count).min(all)
 }

@@ -1,13 +1,13 @@
 -- What stands in a region past its last record. Assumes nothing.
 use Prim.Native.Nat.{ℕ, ◌+◌, ◌-◌, ◌*◌, ◌≤◌, ◌<◌}
 use native.Mathlib.Omega.{arith}
-use native.Mathlib.Nat.{mul-le-mul_right}
+use native.Mathlib.Nat.{mul-le-mul_right, suc-mul}
 use mathlib.Core.Path.{◌≡◌, sym, ap, ◌∙◌}
 use mathlib.Core.Bool.{false}
-use mathlib.Core.Logic.{inl, inr}
+use mathlib.Core.Logic.{◌⊎◌, inl, inr}
 use mathlib.Core.List.{List, []}
-use lib.ListN.{length, get_or, replicate, take, length-take, get_or-eq_default, get_or-replicate}
-use lib.Seq.{get_or-append-add}
+use lib.ListN.{length, get_or, replicate, take, drop, length-take, get_or-eq_default, get_or-replicate}
+use lib.Seq.{get_or-append-add, get_or-take, get_or-drop}
 use lib.Dec.{ltb}
 use lib.Ieee.{Float}
 use borrow.Author.Tests.{le-leb, ltb-false}
@@ -50,6 +50,19 @@ module _ {A R : Type 0} {enc : R → List A} {z : A} {bs : List (List A)} {b n b
 as_long : {A : Type 0} (n : ℕ) (l : List A) → length (take n l) ≡ n → n ≤ length l
 as_long n l e = omega (arith, e, length-take n l)
 
+-- ---- a row of k elements from a place on
+pub in_row : {A : Type 0} (l : List A) (base k : ℕ) {row : List A} → row ≡ take k (drop base l) → (j : ℕ) (d : A) → j < k → get_or row j d ≡ get_or l (base + j) d
+in_row l base k e j d h = rw e (get_or-take k (drop base l) j d h ∙ get_or-drop base l j d)
+
+-- a row of one element
+pub only : {A : Type 0} (l : List A) (at i : ℕ) (d : A) {row : List A} → row ≡ take 1 (drop (at + i * 1) l) → get_or row 0 d ≡ get_or l (at + i) d
+only l at i d e =
+    let here : at + i * 1 + 0 ≡ at + i = omega arith in
+    in_row l (at + i * 1) 1 e 0 d (omega arith) ∙ ap (λ (k : ℕ). get_or l k d) here
+
+row-inside : (i room k : ℕ) → i < room → i * k + k ≤ room * k
+row-inside i room k h = omega (arith, mul-le-mul_right k h, suc-mul i k)
+
 -- tables that hold a network are long enough: what does not fit is past the end
 module _ {m : Network} {w : List ℕ} {f : List Float} (g : Stands m w f) {R : Type 0} (rs : List R) (r0 : R) {room : ℕ} (i : ℕ) (bound : length rs ≤ room) where
   pub past_words : has_room (length w) room i ≡ false → r0 ≡ get_or rs i r0
@@ -59,3 +72,29 @@ module _ {m : Network} {w : List ℕ} {f : List Float} (g : Stands m w f) {R : T
 
   pub past-both : have_room (length w) (length f) room i ≡ false → r0 ≡ get_or rs i r0
   past-both e = past_words (rw (le-leb room_numbers (length f) (as_long room_numbers f (numbers-long g.words.known g.numbers))) at e)
+
+  -- ..and so is a row for which the tables are too short
+  short : (at k n long : ℕ) → at + room * k ≤ n → n ≤ long → long < at + i * k + k → r0 ≡ get_or rs i r0
+  short at k n long fits le less =
+      elim (le-or-lt room i) [
+        | inl past ↦ sym (get_or-eq_default rs r0 (omega (arith, bound)))
+        | inr hi ↦ absurd (omega (arith, row-inside i room k hi))
+      ]
+
+  pub past_row : (at k : ℕ) → at + room * k ≤ record_words → (has_room (length w) room i ≡ false ⊎ length w < at + i * k + k) → r0 ≡ get_or rs i r0
+  past_row at k fits e =
+      elim e [
+        | inl h ↦ past_words h
+        | inr h ↦ short at k record_words (length w) fits (as_long record_words w (words_long g.words)) h
+      ]
+
+  pub past_rows : (at k bt n : ℕ) → at + room * k ≤ record_words → bt + room * n ≤ room_numbers
+      → (have_room (length w) (length f) room i ≡ false ⊎ (length w < at + i * k + k ⊎ length f < bt + i * n + n)) → r0 ≡ get_or rs i r0
+  past_rows at k bt n fits fit e =
+      elim e [
+        | inl h ↦ past-both h
+        | inr h ↦ elim h [
+          | inl h ↦ short at k record_words (length w) fits (as_long record_words w (words_long g.words)) h
+          | inr h ↦ short bt n room_numbers (length f) fit (as_long room_numbers f (numbers-long g.words.known g.numbers)) h
+        ]
+      ]

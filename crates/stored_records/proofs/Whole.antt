@@ -2,6 +2,7 @@
 use Prim.Native.Nat.{ℕ}
 use lib.Dec.{eqb}
 use lib.Ieee.{Float}
+use Rattle.std.specs.Bool.{then_some}
 use Rattle.stored_records.specs.declared.Node as nodeOut
 use Rattle.stored_records.specs.declared.Link as linkOut
 use Rattle.stored_records.specs.declared.Rule as ruleOut
@@ -10,7 +11,7 @@ use Rattle.stored_words.specs.Words.{span_from, amount_from}
 use Rattle.stored_records.specs.Back.{kind_by, link_kind_by}
 
 abbrev pub node_by : (ℕ → ℕ) → (ℕ → Float) → nodeOut.Node
-node_by a b = record { id = span_from (a id_place) (a id_length); kind = kind_by a b; placed = eqb (a node_placed) 1; x = b node_x; y = b node_y }
+node_by a b = record { id = span_from (a id_place) (a id_length); kind = kind_by a b; place = then_some (eqb (a node_placed) 1) (record { x = b node_x; y = b node_y }) }
 
 abbrev pub link_by : (ℕ → ℕ) → (ℕ → Float) → linkOut.Link
 link_by a b = record { id = span_from (a id_place) (a id_length); start = a link_start; end = a link_end; kind = link_kind_by a b }

@@ -1,9 +1,9 @@
 -- A node, link, rule or clause read back from the tables: what the code has for each record of the network. Assumes nothing.
-use Rattle.std.specs.Prelude.{ℕ, ◌+◌, true, false, cond, List, get_or, take, eqb, Float, None, Option, Some}
+use Rattle.std.specs.Prelude.{ℕ, ◌+◌, cond, List, get_or, take, eqb, Float, Some, None, Option}
+use Rattle.std.specs.Prelude as code
 use Rattle.std.specs.Float.{nan}
-use Rattle.leaf_fields.specs.Fields.{Name}
 use Rattle.scope.specs.Records as R
-use Rattle.scope.specs.Records.{Network, zero_f, junction, reservoir, tank, pipe, pump, valve, condition, action}
+use Rattle.scope.specs.Records.{Network, junction, reservoir, tank, pipe, pump, valve, condition, action}
 use Rattle.scope.specs.Layout.{name_length, node_kind, node_name, node_detail, link_kind, link_detail, link_name, clause_kind, condition_operator, condition_target}
 use Rattle.scope.specs.Layout.{condition_comparison, action_else, action_link, clause_status, clause_name}
 use Rattle.scope.specs.Layout.{node_elevation, junction_emitter, tank_initial, tank_minimum, tank_maximum, tank_diameter, tank_volume, pipe_length, pipe_diameter}
@@ -23,6 +23,7 @@ use Rattle.stored_records.specs.declared.Junction as junctionOut
 use Rattle.stored_records.specs.declared.Reservoir as reservoirOut
 use Rattle.stored_records.specs.declared.NodeKind as kindOut
 use Rattle.stored_records.specs.declared.NodeKind.TheVariants as nodeIs
+use Rattle.stored_records.specs.declared.Place as placeOut
 use Rattle.stored_records.specs.declared.Node as nodeOut
 use Rattle.stored_records.specs.declared.Link as linkOut
 use Rattle.stored_records.specs.declared.Rule as ruleOut
@@ -36,11 +37,11 @@ pub record Stands (m : Network) (w : List ℕ) (f : List Float) : Type 0 where
   pub numbers : Numbers m (take room_numbers f)
 
 -- ---- a record by its words a and its numbers b, each by its place in the record
-abbrev pub words_from : List ℕ → ℕ → ℕ → ℕ
-words_from w at j = get_or w (at + j) 0
+abbrev pub words_in : List ℕ → ℕ → ℕ
+words_in l j = get_or l j 0
 
-abbrev pub numbers_from : List Float → ℕ → ℕ → Float
-numbers_from f at j = get_or f (at + j) nan
+abbrev pub numbers_in : List Float → ℕ → Float
+numbers_in l j = get_or l j nan
 
 abbrev pub junction_by : (ℕ → ℕ) → (ℕ → Float) → junctionOut.Junction
 junction_by a b = record { elevation = b node_elevation; emitter = b junction_emitter; disabled = eqb (a node_detail) 1 }
@@ -101,12 +102,12 @@ kind_back (reservoir r) = nodeIs.Reservoir (record { elevation = r.elevation; pa
 kind_back (tank t) =
     nodeIs.Tank (record { elevation = t.elevation; initial = t.initial; minimum = t.minimum; maximum = t.maximum; diameter = t.diameter; volume = t.volume; curve = name_field t.curve; overflow = t.overflow })
 
-abbrev pub node_at : Name → kindOut.NodeKind → Option R.Place → nodeOut.Node
-node_at id k None = record { id = name_span id; kind = k; placed = false; x = zero_f; y = zero_f }
-node_at id k (Some p) = record { id = name_span id; kind = k; placed = true; x = p.x; y = p.y }
+abbrev pub place_back : Option R.Place → code.Option placeOut.Place
+place_back None = None
+place_back (Some p) = Some (record { x = p.x; y = p.y })
 
 abbrev pub node_back : R.Node → nodeOut.Node
-node_back n = node_at n.id (kind_back n.kind) n.place
+node_back n = record { id = name_span n.id; kind = kind_back n.kind; place = place_back n.place }
 
 abbrev pub link_kind_back : R.LinkKind → linkKindOut.LinkKind
 link_kind_back (pipe p) = linkIs.Pipe (record { long = p.long; diameter = p.diameter; roughness = p.roughness; minor = p.minor; status = p.status })

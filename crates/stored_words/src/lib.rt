@@ -6,21 +6,12 @@ ghost use Rattle.stored_words.specs.Words.{span_from, field_from, found_from, am
 
 use leaf_fields::Span;
 
-// A number that may be unset.
-#[derive(Clone, Copy)]
-pub enum Amount {
-    Set(u64),
-    Unset,
-}
-
 // A span by its place and its length; one that would end beyond every place is empty.
 pub fn span_from(at: usize, long: usize) -> Span
     ensures { result ≡ span_from at long }
 {
-    if 18446744073709551615 - at < long {
-        return Span { at, end: at };
-    }
-    Span { at, end: at + long }
+    let end = at.checked_add(long).unwrap_or(at);
+    Span { at, end }
 }
 
 // A field by its place and its length; no field is empty.
@@ -36,17 +27,13 @@ pub fn field_from(at: usize, long: usize) -> Option<Span>
 pub fn found_from(n: u64) -> Option<usize>
     ensures { result ≡ found_from n }
 {
-    if n == 0 {
-        return None;
-    }
-    Some((n - 1) as usize)
+    let i = n.checked_sub(1)?;
+    Some(i as usize)
 }
 
-pub fn amount_from(n: u64, x: u64) -> Amount
+// A number by its mark and itself: without a mark there is none.
+pub fn amount_from(n: u64, x: u64) -> Option<u64>
     ensures { result ≡ amount_from n x }
 {
-    if n == 0 {
-        return Amount::Unset;
-    }
-    Amount::Set(x)
+    (n != 0).then_some(x)
 }

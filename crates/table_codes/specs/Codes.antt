@@ -1,4 +1,4 @@
--- What the words of a record stand for. Assumes nothing.
+-- What the numbers of the tables stand for. Assumes nothing.
 use Rattle.std.specs.Prelude.{ℕ, cond, eqb, ltb, Float}
 use Rattle.scope.specs.declared.PipeStatus.{PipeStatus}
 use Rattle.scope.specs.declared.PipeStatus.TheVariants as pipeIs
@@ -16,6 +16,9 @@ use Rattle.scope.specs.declared.Comparison.{Comparison}
 use Rattle.scope.specs.declared.Comparison.TheVariants.{Equal, NotEqual, Above, Below, AtLeast, AtMost}
 use Rattle.scope.specs.declared.Operator.{Operator}
 use Rattle.scope.specs.declared.Operator.TheVariants.{And, Or}
+use Rattle.scope.specs.declared.Reason.{Reason}
+use Rattle.scope.specs.declared.Reason.TheVariants.{Missing, Malformed, Used, NotFound, WrongKind, XFalls, UnknownWord, NoCondition, NoAction, NoId}
+use Rattle.scope.specs.declared.Reason.TheVariants.{TooLong, HighByte, BeyondReach, NoRoom, SmallTable}
 use Rattle.scope.specs.declared.Value.{Value}
 use Rattle.scope.specs.declared.Value.TheVariants.{Number, Status}
 
@@ -56,3 +59,21 @@ operator_from n = cond (eqb n 1) And Or
 
 abbrev pub value_from : ℕ → Float → Value
 value_from n x = cond (eqb n 0) (Number x) (Status (status_from n))
+
+-- ---- what the numbers of the answers stand for
+abbrev pub reason_from : ℕ → Reason
+reason_from n =
+    cond (eqb n 1) Missing
+    (cond (eqb n 2) Malformed
+    (cond (eqb n 3) Used
+    (cond (eqb n 4) NotFound
+    (cond (eqb n 5) WrongKind
+    (cond (eqb n 6) XFalls
+    (cond (eqb n 7) UnknownWord
+    (cond (eqb n 8) NoCondition
+    (cond (eqb n 9) NoAction
+    (cond (eqb n 10) NoId
+    (cond (eqb n 20) TooLong
+    (cond (eqb n 21) HighByte
+    (cond (eqb n 22) BeyondReach
+    (cond (eqb n 23) NoRoom SmallTable)))))))))))))

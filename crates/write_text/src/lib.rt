@@ -1,121 +1,106 @@
-// What the programs write: words, counts and numbers, and names as they stand in the text.
+// How the programs write numbers and names: each is a value that is displayed.
 #![tactic(auto)]
 
 use leaf_fields::Span;
 use scope::LinkStatus;
-use std::io;
-use std::io::Write;
-
-pub fn write<W: Write>(out: &mut W, b: &[u8]) -> io::Result<()> {
-    out.write_all(b)
-}
-
-pub fn newline<W: Write>(out: &mut W) -> io::Result<()> {
-    write(out, b"\n")
-}
-
-pub fn decimal<W: Write>(out: &mut W, n: u64) -> io::Result<()> {
-    write!(out, "{n}")
-}
-
-// A count after a space.
-pub fn count<W: Write>(out: &mut W, n: u64) -> io::Result<()> {
-    write(out, b" ")?;
-    decimal(out, n)
-}
-
-pub fn flag<W: Write>(out: &mut W, on: bool) -> io::Result<()> {
-    if on {
-        write(out, b" 1")
-    } else {
-        write(out, b" 0")
-    }
-}
+use std::fmt;
 
 // The eight bytes of a number as hexadecimal digits; every NaN is the same.
-fn bits<W: Write>(out: &mut W, x: f64) -> io::Result<()> {
-    if x != x {
-        return write(out, b"7ff8000000000000");
-    }
-    let digits = f64::to_bits(x);
-    write!(out, "{digits:016x}")
-}
+#[derive(Clone, Copy)]
+pub struct Bits(pub f64);
 
-// A number after a space.
-pub fn number<W: Write>(out: &mut W, x: f64) -> io::Result<()> {
-    write(out, b" ")?;
-    bits(out, x)
-}
-
-// A place on the map or a point of a curve, after a space.
-pub fn pair<W: Write>(out: &mut W, x: f64, y: f64) -> io::Result<()> {
-    number(out, x)?;
-    write(out, b",")?;
-    bits(out, y)
-}
-
-fn escaped<W: Write>(out: &mut W, b: u8) -> io::Result<()> {
-    write!(out, "\\x{b:02x}")
-}
-
-// A letter of a name. A backslash, a space and what does not print are escaped.
-fn letter<W: Write>(out: &mut W, b: u8) -> io::Result<()> {
-    match b {
-        0..=b' ' => escaped(out, b),
-        b'\\' => escaped(out, b),
-        127..=255 => escaped(out, b),
-        _ => write(out, &[b]),
+impl fmt::Display for Bits {
+    fn fmt<W: fmt::Write>(&self, f: &mut fmt::Formatter<W>) -> fmt::Result {
+        if self.0.is_nan() {
+            return write!(f, "7ff8000000000000");
+        }
+        let bits = self.0.to_bits();
+        write!(f, "{bits:016x}")
     }
 }
 
-fn letters<W: Write>(out: &mut W, name: &[u8]) -> io::Result<()> {
-    for b in name {
-        letter(out, *b)?;
+// A place on the map or a point of a curve.
+#[derive(Clone, Copy)]
+pub struct Pair(pub f64, pub f64);
+
+impl fmt::Display for Pair {
+    fn fmt<W: fmt::Write>(&self, f: &mut fmt::Formatter<W>) -> fmt::Result {
+        write!(f, "{},{}", Bits(self.0), Bits(self.1))
     }
-    Ok(())
+}
+
+// The letters of a name behind `=`. A backslash, a space and what does not print are escaped.
+#[derive(Clone, Copy)]
+pub struct Id<'a>(pub &'a [u8]);
+
+impl Id<'_> {
+    pub fn of(text: &[u8], place: Span) -> Id<'_> {
+        Id(leaf_fields::letters_of(text, place))
+    }
+}
+
+impl fmt::Display for Id<'_> {
+    fn fmt<W: fmt::Write>(&self, f: &mut fmt::Formatter<W>) -> fmt::Result {
+        f.write_char('=')?;
+        for b in self.0 {
+            match b {
+                0..=b' ' | b'\\' | 127..=255 => write!(f, "\\x{b:02x}")?,
+                _ => f.write_char(char::from(*b))?,
+            }
+        }
+        Ok(())
+    }
+}
+
+// A value; `-` where there is none.
+#[derive(Clone, Copy)]
+pub struct OrDash<T>(pub Option<T>);
+
+impl<T: fmt::Display> fmt::Display for OrDash<T> {
+    fn fmt<W: fmt::Write>(&self, f: &mut fmt::Formatter<W>) -> fmt::Result {
+        match &self.0 {
+            Some(x) => x.fmt(f),
+            None => f.write_char('-'),
+        }
+    }
+}
+
+// A name, if there is one.
+pub fn name_in(text: &[u8], name: Option<Span>) -> OrDash<Id<'_>> {
+    match name {
+        Some(place) => OrDash(Some(Id::of(text, place))),
+        None => OrDash(None),
+    }
+}
+
+// A place in a table, if there is one.
+pub fn index_of(found: Option<usize>) -> OrDash<usize> {
+    match found {
+        Some(i) => OrDash(Some(i)),
+        None => OrDash(None),
+    }
 }
 
 // A line as it stands, but for a byte that does not print: a blank.
-fn plain_letter<W: Write>(out: &mut W, b: u8) -> io::Result<()> {
-    match b {
-        b' '..=b'~' => write(out, &[b]),
-        _ => write(out, b" "),
+#[derive(Clone, Copy)]
+pub struct Plain<'a>(pub &'a [u8]);
+
+impl fmt::Display for Plain<'_> {
+    fn fmt<W: fmt::Write>(&self, f: &mut fmt::Formatter<W>) -> fmt::Result {
+        for b in self.0 {
+            match b {
+                b' '..=b'~' => f.write_char(char::from(*b))?,
+                _ => f.write_char(' ')?,
+            }
+        }
+        Ok(())
     }
 }
 
-pub fn plain<W: Write>(out: &mut W, line: &[u8]) -> io::Result<()> {
-    for b in line {
-        plain_letter(out, *b)?;
-    }
-    Ok(())
-}
-
-// A name after a space.
-pub fn id<W: Write>(out: &mut W, text: &[u8], s: Span) -> io::Result<()> {
-    write(out, b" =")?;
-    letters(out, leaf_fields::letters_of(text, s))
-}
-
-// A name after a space; `-` where there is none.
-pub fn name<W: Write>(out: &mut W, text: &[u8], f: Option<Span>) -> io::Result<()> {
-    match f {
-        Some(s) => id(out, text, s),
-        None => write(out, b" -"),
-    }
-}
-
-// A place in a table after a space; `-` where there is none.
-pub fn index<W: Write>(out: &mut W, found: Option<usize>) -> io::Result<()> {
-    match found {
-        Some(i) => count(out, i as u64),
-        None => write(out, b" -"),
-    }
-}
-
-pub fn status<W: Write>(out: &mut W, s: LinkStatus) -> io::Result<()> {
+pub fn status_word(s: LinkStatus) -> &'static str {
     match s {
-        LinkStatus::Open => write(out, b" OPEN"),
-        LinkStatus::Closed => write(out, b" CLOSED"),
-        LinkStatus::Active => write(out, b" ACTIVE"),
+        LinkStatus::Open => "OPEN",
+        LinkStatus::Closed => "CLOSED",
+        LinkStatus::Active => "ACTIVE",
     }
 }

@@ -3,11 +3,11 @@ use Rattle.std.proofs.Common.{arith}
 use Rattle.leaf_scans.proofs.LineLaws.{end_more, end-le}
 use Rattle.cases.proofs.replay.Goals as goal
 
-pub loop-at-smaller-in_ok-write : goal.loop-at-smaller-in_ok-write
-loop-at-smaller-in_ok-write g c = omega (arith, c.loop-at-test.true, end_more c.args.all.now c.loop-at.at _ c.loop-at-test.true c.line_end-end.ensures)
+pub loop-at-smaller-in_ok-write_all : goal.loop-at-smaller-in_ok-write_all
+loop-at-smaller-in_ok-write_all g c = omega (arith, c.loop-at-test.true, end_more c.args.all.now c.loop-at.at _ c.loop-at-test.true c.line_end-end.ensures)
 
-pub loop-at-preserved-in_ok-write : goal.loop-at-preserved-in_ok-write
-loop-at-preserved-in_ok-write g c = end-le c.args.all.now c.loop-at.at _ c.loop-at-test.true c.line_end-end.ensures
+pub loop-at-preserved-in_ok-write_all : goal.loop-at-preserved-in_ok-write_all
+loop-at-preserved-in_ok-write_all g c = end-le c.args.all.now c.loop-at.at _ c.loop-at-test.true c.line_end-end.ensures
 
 pub loop-at-smaller : goal.loop-at-smaller
 loop-at-smaller g c = omega (arith, c.loop-at-test.true, end_more c.args.all.now c.loop-at.at _ c.loop-at-test.true c.line_end-end.ensures)

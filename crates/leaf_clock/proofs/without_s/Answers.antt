@@ -1,30 +1,28 @@
 -- `leaf_clock::without_s` meets its contract. Assumes nothing.
-use Rattle.std.proofs.Common.{ℕ, List, sym, refl, ap, ◌∙◌, arith}
+use Rattle.std.proofs.Common.{ℕ, List, sym, refl, ap, ◌∙◌, eqb-true}
 use Rattle.leaf_letters.specs.Words.{spelled}
 use Rattle.leaf_clock.specs.Times.{word_s, without_s}
 use Rattle.leaf_clock.proofs.Choice.{chosen, passed}
-use Rattle.leaf_clock.proofs.Parts.{start-length, last_of}
 use Rattle.leaf_clock.proofs.Units.{no-letters}
 use Rattle.leaf_clock.proofs.without_s.Goals as goal
+use Rattle.leaf_clock.proofs.without_s.Goals.{then-is_empty-via-then-is_empty, then-is_empty-via-else-is_empty+then-spells}
 
-pub returns-then-n-eq0 : goal.returns-then-n-eq0
-returns-then-n-eq0 c = no-letters c.args.unit.now c.if-n-eq0.true
-
-pub returns-then-spells : goal.returns-then-spells
+pub returns-then-is_empty : goal.returns-then-is_empty
 unfolding without_s
-returns-then-spells c = chosen _ _ _ _ (sym c.spells.ensures ∙ c.if-spells.true) refl
-
-pub slice_bounds-result-end : goal.slice_bounds-result-end
-slice_bounds-result-end c = start-length c.args.unit.now _ (omega arith)
+returns-then-is_empty c =
+    elim c.then-is_empty.branch [
+      | then-is_empty-via-then-is_empty w ↦ no-letters c.args.unit.now (eqb-true _ 0 (sym c.is_empty.ensures ∙ w.if-is_empty.true))
+      | then-is_empty-via-else-is_empty+then-spells w ↦ chosen _ _ _ _ (sym w.spells.ensures ∙ w.if-spells.true) refl
+    ]
 
 pub returns-then-spells-2 : goal.returns-then-spells-2
 unfolding without_s
 returns-then-spells-2 c =
     passed _ _ _ _ (sym c.spells.ensures ∙ c.if-spells.false)
-    (chosen _ _ _ _ (sym (c.spells-2.ensures ∙ ap (λ (l : List ℕ). spelled l word_s) (last_of c.args.unit.now)) ∙ c.if-spells-2.true) refl)
+    (chosen _ _ _ _ (sym (c.spells-2.ensures ∙ ap (λ (l : List ℕ). spelled l word_s) c.split_at.ensures.back) ∙ c.if-spells-2.true) c.split_at.ensures.front)
 
-pub returns : goal.returns
+pub returns-else-spells-2 : goal.returns-else-spells-2
 unfolding without_s
-returns c =
+returns-else-spells-2 c =
     passed _ _ _ _ (sym c.spells.ensures ∙ c.if-spells.false)
-    (passed _ _ _ _ (sym (c.spells-2.ensures ∙ ap (λ (l : List ℕ). spelled l word_s) (last_of c.args.unit.now)) ∙ c.if-spells-2.false) refl)
+    (passed _ _ _ _ (sym (c.spells-2.ensures ∙ ap (λ (l : List ℕ). spelled l word_s) c.split_at.ensures.back) ∙ c.if-spells-2.false) refl)

@@ -1,42 +1,19 @@
 -- `leaf_decimals::is_word` meets its contract. Assumes nothing.
-use mathlib.Core.Path.{refl, sym, ◌∙◌}
-use Prim.Native.Nat.{zero-le}
-use native.Mathlib.Omega.{arith}
-use Rattle.leaf_decimals.proofs.Words.{spells-length, spells-step, spells-differ, spells-end}
+use Rattle.std.proofs.Common.{rules, ℕ}
+use Rattle.std.proofs.lemmas.Iterator.{YieldsList-from_slice, YieldsList-from_zip}
+use Rattle.std.proofs.lemmas.Iterator.Search.{all_from_yields_List}
+use borrow.Author.Tests.{tests, ne_eqb}
+use lib.Dec.{eqb}
+use lib.ListN.{length}
+use mathlib.Core.Path.{sym, ◌∙◌}
+use Rattle.leaf_digits.specs.Bytes.{lower}
+use Rattle.leaf_decimals.proofs.Words.{spells-all, spells-length}
 use Rattle.leaf_decimals.proofs.is_word.Goals as goal
 
 pub returns-then-s-w : goal.returns-then-s-w
-returns-then-s-w c = sym (spells-length _ _ c.if-s-w.true)
+returns-then-s-w c =
+    all_from_yields_List {s = c.zip.result} (λ (p : ℕ × ℕ). eqb (lower p.0) p.1) c.all.new.self _ _ c.all.ensures.ran (YieldsList-from_zip (YieldsList-from_slice c.args.s.now cc) (YieldsList-from_slice c.args.w.now cc)) (λ x b q k. search (rules, tests))
+    ∙ spells-all c.args.s.now c.args.w.now c.if-s-w.true
 
-pub loop-i-init : goal.loop-i-init
-loop-i-init c = (zero-le, refl)
-
-pub bounds-s-i : goal.bounds-s-i
-bounds-s-i c = omega arith
-
-pub lowered-requires : goal.lowered-requires
-lowered-requires c = tt
-
-pub bounds-w-i : goal.bounds-w-i
-bounds-w-i c = omega arith
-
-pub returns-then-lowered-w : goal.returns-then-lowered-w
-returns-then-lowered-w c =
-    let e = c.if-s-w.false in
-    sym (spells-differ _ _ c.loop-i.i (omega arith) (omega arith) (λ q. c.if-lowered-w.true (c.lowered.ensures ∙ q))) ∙ c.loop-i.invariant.1
-
-pub overflow_add-i : goal.overflow_add-i
-overflow_add-i c = omega arith
-
-pub loop-i-smaller : goal.loop-i-smaller
-loop-i-smaller c = omega arith
-
-pub loop-i-preserved : goal.loop-i-preserved
-loop-i-preserved c =
-    let e = c.if-s-w.false in
-    (omega arith, sym (spells-step _ _ c.loop-i.i (omega arith) (omega arith) (sym c.lowered.ensures ∙ c.if-lowered-w.false)) ∙ c.loop-i.invariant.1)
-
-pub returns : goal.returns
-returns c =
-    let l = c.if-s-w.false in
-    sym (spells-end _ _ c.loop-i.i (omega arith) (omega arith)) ∙ c.loop-i.invariant.1
+pub returns-else-s-w : goal.returns-else-s-w
+returns-else-s-w c = rw (ne_eqb (length c.args.s.now) (length c.args.w.now) c.if-s-w.false) (sym (spells-length c.args.s.now c.args.w.now c.if-s-w.false))

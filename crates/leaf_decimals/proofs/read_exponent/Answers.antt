@@ -12,22 +12,22 @@ use Rattle.leaf_digits.proofs.Lists.{tail_of}
 use Rattle.leaf_decimals.proofs.Reading.{exponent-nil, exponent-sign, exponent-none}
 use Rattle.leaf_decimals.proofs.read_exponent.Goals as goal
 
-pub returns-then-s-eq0 : goal.returns-then-s-eq0
-returns-then-s-eq0 c = sym (exponent-nil _ _ _ _ c.if-s-eq0.true)
+pub returns-in_default : goal.returns-in_default
+returns-in_default c = sym (exponent-nil _ _ _ _ (omega arith))
 
 pub returns-in-Sign : goal.returns-in-Sign
 returns-in-Sign c =
     let a = c.args in
     let s : List ℕ = a.s.now in
-    let h : 0 < length s = omega (arith, c.if-s-eq0.false) in
+    let h : 0 < length s = omega arith in
     c.read_power.ensures
     ∙ ap (λ (l : List ℕ). outcome (power a.minus a.w a.frac (eqb (get_or s 0 0) 45) l)) (tail_of s 1)
     ∙ ap outcome (sym (exponent-sign a.minus a.w a.frac s h (is-class Sign _ c.class_of.ensures c.in-Sign.is)))
 
-pub returns-in_default : goal.returns-in_default
-returns-in_default c =
+pub returns-in_default-class_of : goal.returns-in_default-class_of
+returns-in_default-class_of c =
     let a = c.args in
     let s : List ℕ = a.s.now in
-    let h : 0 < length s = omega (arith, c.if-s-eq0.false) in
-    c.read_power-in_default.ensures
-    ∙ ap outcome (sym (exponent-none a.minus a.w a.frac s h (not-class Sign _ c.class_of.ensures c.in_default.not-Sign)))
+    let h : 0 < length s = omega arith in
+    c.read_power-in_default-class_of.ensures
+    ∙ ap outcome (sym (exponent-none a.minus a.w a.frac s h (not-class Sign _ c.class_of.ensures c.in_default-class_of.not-Sign)))

@@ -1,8 +1,11 @@
 -- `leaf_decimals::read_power` meets its contract. Assumes nothing.
 use mathlib.Core.Path.{◌≡◌, sym, ap, ◌∙◌, subst}
+use mathlib.Core.Bool.{Bool}
 use mathlib.Core.List.{List}
 use Prim.Native.Nat.{ℕ, ◌+◌, ◌<◌, ◌≤◌, min}
 use native.Mathlib.Omega.{arith}
+use mathlib.Core.Logic.{⊎_elim}
+use Rattle.leaf_decimals.proofs.Whole.{le-or-lt}
 use lib.ListN.{length}
 use Rattle.leaf_decimals.specs.Reach.{meaning}
 use Rattle.leaf_digits.specs.Cap.{cap}
@@ -11,32 +14,24 @@ use Rattle.leaf_decimals.proofs.Meaning.{meaning-cap-up, meaning-cap-down}
 use Rattle.leaf_decimals.proofs.Reading.{power-none, power-more, power-back, power-forth}
 use Rattle.leaf_decimals.proofs.read_power.Goals as goal
 
-small : (x : ℕ) → min x cap ≤ 22 → min x cap ≡ x
-small x h = omega arith
+-- past 22 the power is beyond reach, and 23 says so
+back-law : (minus : Bool) (w x frac v : ℕ) → v ≡ min x cap → meaning minus w 0 (frac + min v 23) ≡ meaning minus w 0 (frac + x)
+back-law minus w x frac v e = ⊎_elim
+    (λ h. let k : min v 23 ≡ x = omega arith in ap (λ (n : ℕ). meaning minus w 0 (frac + n)) k)
+    (λ h. let k : min v 23 ≡ 23 = omega arith in ap (λ (n : ℕ). meaning minus w 0 (frac + n)) k ∙ meaning-cap-down minus w x frac (omega arith))
+    (le-or-lt v 22)
 
 pub returns-then-n-eq0 : goal.returns-then-n-eq0
-returns-then-n-eq0 c = sym (power-none _ _ _ _ _ (sym c.leading-d.ensures.0 ∙ c.if-n-eq0.true))
-
-pub returns-then-n-s : goal.returns-then-n-s
-returns-then-n-s c =
+returns-then-n-eq0 c =
     let s : List ℕ = c.args.s.now in
-    sym (power-more _ _ _ _ s (subst (λ (n : ℕ). n < length s) c.leading-d.ensures.0 c.if-n-s.true))
+    let l = c.leading-d.ensures.0 in
+    ⊎_elim (λ e. sym (power-none _ _ _ _ _ (sym l ∙ e))) (λ h. sym (power-more _ _ _ _ s (subst (λ (n : ℕ). n < length s) l h.1))) c.then-n-eq0.either
 
-pub returns-then-x-gt22 : goal.returns-then-x-gt22
-returns-then-x-gt22 c =
+pub returns-then-back : goal.returns-then-back
+returns-then-back c =
     let s : List ℕ = c.args.s.now in
     let l = c.leading-d.ensures in
-    c.valued.ensures
-    ∙ meaning-cap-down _ _ (value 0 (digits s)) _ (subst (λ (n : ℕ). 22 < n) l.1 c.if-x-gt22.true)
-    ∙ sym (power-back _ _ _ s (λ e. c.if-n-eq0.false (l.0 ∙ e)) (subst (λ (n : ℕ). length s ≤ n) l.0 c.if-n-s.false) _ c.if-back.true)
-
-pub returns-else-x-gt22 : goal.returns-else-x-gt22
-returns-else-x-gt22 c =
-    let s : List ℕ = c.args.s.now in
-    let l = c.leading-d.ensures in
-    c.valued-else-x-gt22.ensures
-    ∙ ap (λ (x : ℕ). meaning c.args.minus c.args.w 0 (c.args.frac + x))
-    (l.1 ∙ small (value 0 (digits s)) (subst (λ (n : ℕ). n ≤ 22) l.1 c.if-x-gt22.false))
+    c.valued.ensures ∙ ap (λ (n : ℕ). meaning c.args.minus c.args.w 0 (c.args.frac + n)) c.min.ensures ∙ back-law _ _ (value 0 (digits s)) _ _ l.1
     ∙ sym (power-back _ _ _ s (λ e. c.if-n-eq0.false (l.0 ∙ e)) (subst (λ (n : ℕ). length s ≤ n) l.0 c.if-n-s.false) _ c.if-back.true)
 
 pub returns-else-back : goal.returns-else-back

@@ -31,7 +31,7 @@ pub returns-then-w-gt9007199254740992 : goal.returns-then-w-gt9007199254740992
 returns-then-w-gt9007199254740992 c = sym (meaning-far _ _ _ _ c.if-w-gt9007199254740992.true)
 
 pub returns-then-k-gt22 : goal.returns-then-k-gt22
-returns-then-k-gt22 c = sym (meaning-apart _ _ _ _ _ c.if-w-eq0.false c.gap-k.ensures c.if-k-gt22.true)
+returns-then-k-gt22 c = sym (meaning-apart _ _ _ _ _ c.if-w-eq0.false c.abs_diff-k.ensures c.if-k-gt22.true)
 
 pub int_to_float-x : goal.int_to_float-x
 unfolding in_float
@@ -40,11 +40,11 @@ int_to_float-x c = le→leb _ _ c.if-w-gt9007199254740992.false
 pub returns-then-down-up : goal.returns-then-down-up
 returns-then-down-up c =
     let a = c.args in
-    ap Ok c.with_sign.ensures ∙ times a.minus a.w a.up a.down _ c.if-w-eq0.false c.if-w-gt9007199254740992.false c.gap-k.ensures
+    ap Ok c.with_sign.ensures ∙ times a.minus a.w a.up a.down _ c.if-w-eq0.false c.if-w-gt9007199254740992.false c.abs_diff-k.ensures
     c.if-k-gt22.false _ c.power_of_ten-p.ensures c.if-down-up.true
 
 pub returns-else-down-up : goal.returns-else-down-up
 returns-else-down-up c =
     let a = c.args in
-    ap Ok c.with_sign-else-down-up.ensures ∙ over a.minus a.w a.up a.down _ c.if-w-eq0.false c.if-w-gt9007199254740992.false c.gap-k.ensures
+    ap Ok c.with_sign-else-down-up.ensures ∙ over a.minus a.w a.up a.down _ c.if-w-eq0.false c.if-w-gt9007199254740992.false c.abs_diff-k.ensures
     c.if-k-gt22.false _ c.power_of_ten-p.ensures c.if-down-up.false

@@ -1,7 +1,8 @@
 -- `leaf_letters::starts_with` meets its contract. Assumes nothing.
-use mathlib.Core.Path.{◌∙◌, ap}
-use Rattle.leaf_letters.specs.Words.{same}
+use Rattle.leaf_letters.proofs.WordLaws.{same-turned}
+use mathlib.Core.Path.{◌∙◌}
+use lib.ListN.{length, take}
 use Rattle.leaf_letters.proofs.starts_with.Goals as goal
 
 pub returns : goal.returns
-returns c = c.equal.ensures ∙ ap (λ x. same x c.args.w.now) c.cut.ensures
+returns c = c.starts_with.ensures.value ∙ same-turned (take (length c.args.w.now) c.args.a.now) c.args.w.now

@@ -1,5 +1,4 @@
 -- `leaf_scans::line_ends` meets its contract. Assumes nothing.
-
 use Rattle.leaf_scans.proofs.line_ends.Goals as goal
 
 pub returns : goal.returns

@@ -1,12 +1,11 @@
 -- `leaf_scans::trim_end` meets its contract. Assumes nothing.
-use Prim.Native.Nat.{◌≤◌}
 use mathlib.Core.Path.{◌≡◌}
-use lib.ListN.{length, take}
+use lib.ListN.{length}
 use Rattle.leaf_scans.specs.Lines.{end_trimmed}
 use Rattle.leaf_scans.proofs.trim_end.Given as goal
 
-abbrev pub invariant-loop-e : goal.invariant-loop-e
-invariant-loop-e l = (l.e ≤ length l.l) × (end_trimmed (take l.e l.l) ≡ end_trimmed l.l)
+abbrev pub invariant-loop-rest : goal.invariant-loop-rest
+invariant-loop-rest l = end_trimmed l.rest ≡ end_trimmed l.fn.l
 
-abbrev pub decreases-loop-e : goal.decreases-loop-e
-decreases-loop-e l = l.e
+abbrev pub decreases-loop-rest : goal.decreases-loop-rest
+decreases-loop-rest l = length l.rest

@@ -1,26 +1,20 @@
 -- `parse_nodes::read_reservoir` meets its contract. Assumes nothing.
-use mathlib.Core.Path.{◌≡◌}
-use mathlib.Core.List.{◌∷◌}
-use Rattle.leaf_fields.specs.Fields.{Fits, fields_at, name_in}
-use Rattle.scope.specs.Values.{took, number_from}
-use Rattle.parse_fields.proofs.TakeLaws.{told-number, told-why, may-fit, optional}
+use Rattle.parse_fields.proofs.IdLaws.{named, unnamed}
+use Rattle.parse_fields.proofs.TakeLaws.{handed-on, may-fit, optional}
 use Rattle.scope.specs.Nodes.{reservoir_of}
 use Rattle.parse_nodes.proofs.read_reservoir.Goals as goal
 
-pub returns-in_default : goal.returns-in_default
+pub returns-in_err-id : goal.returns-in_err-id
 unfolding reservoir_of
-returns-in_default c = rw (c.next_field-f.ensures.nothing c.in_default.is)
+returns-in_err-id c = rw (handed-on c.from_residual.ensures, unnamed _ c.next_field.ensures c.in_err-id.ensures.value)
 
-pub returns-in_default-height : goal.returns-in_default-height
+pub returns-in_err-elevation : goal.returns-in_err-elevation
 unfolding reservoir_of
-returns-in_default-height c =
-    let s1 : let a = c.args in let l = a.l.now in (fields_at l a.at ≡ name_in l c.in-Some.id ∷ fields_at l c.in-Some.id.end) × Fits l c.in-Some.id = c.next_field-f.ensures.taken _ c.in-Some.is in
-    let a = c.args in
-    rw ((s1).0, told-number a.l.now c.take_number-height.ensures c.in_default-height.is) (told-why c.reason_of.ensures c.in_default-height.is)
+returns-in_err-elevation c =
+    rw (handed-on c.from_residual-in_err-elevation.ensures, (named _ c.next_field.ensures c.in_ok-id.ensures.value).0, ← c.in_err-elevation.ensures)
 
 pub returns : goal.returns
 unfolding reservoir_of
 returns c =
-    let s1 : let a = c.args in let l = a.l.now in (fields_at l a.at ≡ name_in l c.in-Some.id ∷ fields_at l c.in-Some.id.end) × Fits l c.in-Some.id = c.next_field-f.ensures.taken _ c.in-Some.is in
-    let s2 : let a = c.args in let l = a.l.now in number_from (fields_at l c.in-Some.id.end) ≡ took c.in-Ok.elevation (fields_at l c.in-Ok.at2) = told-number c.args.l.now c.take_number-height.ensures c.in-Ok.is in
-    (rw ((s1).0, s2, optional c.next_field-pattern.result c.next_field-pattern.ensures), (s1).1, may-fit c.next_field-pattern.result c.next_field-pattern.ensures)
+    let id = named _ c.next_field.ensures c.in_ok-id.ensures.value in
+    (rw (id.0, ← c.in_ok-elevation.ensures, optional _ c.next_field-pattern.ensures), (id.1, may-fit _ c.next_field-pattern.ensures))

@@ -1,25 +1,20 @@
 -- `parse_pairs::read_emitter` meets its contract. Assumes nothing.
-use mathlib.Core.Path.{◌≡◌}
-use mathlib.Core.List.{◌∷◌}
-use Rattle.leaf_fields.specs.Fields.{Fits, fields_at, name_in}
+use Rattle.parse_fields.proofs.IdLaws.{named, unnamed}
+use Rattle.parse_fields.proofs.TakeLaws.{handed-on}
 use Rattle.scope.specs.Nodes.{emitter_of}
-use Rattle.parse_fields.proofs.TakeLaws.{told-number}
 use Rattle.parse_pairs.proofs.read_emitter.Goals as goal
 
-pub returns-in_default : goal.returns-in_default
+pub returns-in_err-junction : goal.returns-in_err-junction
 unfolding emitter_of
-returns-in_default c = rw (c.next_field-f.ensures.nothing c.in_default.is)
+returns-in_err-junction c = rw (handed-on c.from_residual.ensures, unnamed _ c.next_field.ensures c.in_err-junction.ensures.value)
 
-pub returns-in-Ok : goal.returns-in-Ok
+pub returns-in_err-coefficient : goal.returns-in_err-coefficient
 unfolding emitter_of
-returns-in-Ok c =
-    let s1 : let a = c.args in let l = a.l.now in (fields_at l a.at ≡ name_in l c.in-Some.id ∷ fields_at l c.in-Some.id.end) × Fits l c.in-Some.id = c.next_field-f.ensures.taken _ c.in-Some.is in
-    let a = c.args in
-    (rw ((s1).0, told-number a.l.now c.take_number-first.ensures c.in-Ok.is), (s1).1)
+returns-in_err-coefficient c =
+    rw (handed-on c.from_residual-in_err-coefficient.ensures, (named _ c.next_field.ensures c.in_ok-junction.ensures.value).0, ← c.in_err-coefficient.ensures)
 
-pub returns-in-Err : goal.returns-in-Err
+pub returns : goal.returns
 unfolding emitter_of
-returns-in-Err c =
-    let s1 : let a = c.args in let l = a.l.now in (fields_at l a.at ≡ name_in l c.in-Some.id ∷ fields_at l c.in-Some.id.end) × Fits l c.in-Some.id = c.next_field-f.ensures.taken _ c.in-Some.is in
-    let a = c.args in
-    rw ((s1).0, told-number a.l.now c.take_number-first.ensures c.in-Err.is)
+returns c =
+    let id = named _ c.next_field.ensures c.in_ok-junction.ensures.value in
+    (rw (id.0, ← c.in_ok-coefficient.ensures), id.1)

@@ -1,34 +1,25 @@
 -- `parse_pairs::read_pair` meets its contract. Assumes nothing.
-use mathlib.Core.Path.{◌≡◌}
-use mathlib.Core.List.{◌∷◌}
-use Rattle.leaf_fields.specs.Fields.{Fits, fields_at, name_in}
-use Rattle.scope.specs.Values.{took, number_from, pair_of}
-use Rattle.parse_fields.proofs.TakeLaws.{told-number, told-why}
+use Rattle.parse_fields.proofs.IdLaws.{named, unnamed}
+use Rattle.parse_fields.proofs.TakeLaws.{handed-on}
+use Rattle.scope.specs.Values.{pair_of}
 use Rattle.parse_pairs.proofs.read_pair.Goals as goal
 
-pub returns-in_default : goal.returns-in_default
+pub returns-in_err-id : goal.returns-in_err-id
 unfolding pair_of
-returns-in_default c = rw (c.next_field-f.ensures.nothing c.in_default.is)
+returns-in_err-id c = rw (handed-on c.from_residual.ensures, unnamed _ c.next_field.ensures c.in_err-id.ensures.value)
 
-pub returns-in_default-first : goal.returns-in_default-first
+pub returns-in_err-x : goal.returns-in_err-x
 unfolding pair_of
-returns-in_default-first c =
-    let s1 : let a = c.args in let l = a.l.now in (fields_at l a.at ≡ name_in l c.in-Some.id ∷ fields_at l c.in-Some.id.end) × Fits l c.in-Some.id = c.next_field-f.ensures.taken _ c.in-Some.is in
-    let a = c.args in
-    rw ((s1).0, told-number a.l.now c.take_number-first.ensures c.in_default-first.is) (told-why c.reason_of.ensures c.in_default-first.is)
+returns-in_err-x c =
+    rw (handed-on c.from_residual-in_err-x.ensures, (named _ c.next_field.ensures c.in_ok-id.ensures.value).0, ← c.in_err-x.ensures)
 
-pub returns-in-Ok-second : goal.returns-in-Ok-second
+pub returns-in_err-y : goal.returns-in_err-y
 unfolding pair_of
-returns-in-Ok-second c =
-    let s1 : let a = c.args in let l = a.l.now in (fields_at l a.at ≡ name_in l c.in-Some.id ∷ fields_at l c.in-Some.id.end) × Fits l c.in-Some.id = c.next_field-f.ensures.taken _ c.in-Some.is in
-    let s2 : let a = c.args in let l = a.l.now in number_from (fields_at l c.in-Some.id.end) ≡ took c.in-Ok.x (fields_at l c.in-Ok.at2) = told-number c.args.l.now c.take_number-first.ensures c.in-Ok.is in
-    let a = c.args in
-    (rw ((s1).0, s2, told-number a.l.now c.take_number-second.ensures c.in-Ok-second.is), (s1).1)
+returns-in_err-y c =
+    rw (handed-on c.from_residual-in_err-y.ensures, (named _ c.next_field.ensures c.in_ok-id.ensures.value).0, ← c.in_ok-x.ensures, ← c.in_err-y.ensures)
 
-pub returns-in-Err : goal.returns-in-Err
+pub returns : goal.returns
 unfolding pair_of
-returns-in-Err c =
-    let s1 : let a = c.args in let l = a.l.now in (fields_at l a.at ≡ name_in l c.in-Some.id ∷ fields_at l c.in-Some.id.end) × Fits l c.in-Some.id = c.next_field-f.ensures.taken _ c.in-Some.is in
-    let s2 : let a = c.args in let l = a.l.now in number_from (fields_at l c.in-Some.id.end) ≡ took c.in-Ok.x (fields_at l c.in-Ok.at2) = told-number c.args.l.now c.take_number-first.ensures c.in-Ok.is in
-    let a = c.args in
-    rw ((s1).0, s2, told-number a.l.now c.take_number-second.ensures c.in-Err.is)
+returns c =
+    let id = named _ c.next_field.ensures c.in_ok-id.ensures.value in
+    (rw (id.0, ← c.in_ok-x.ensures, ← c.in_ok-y.ensures), id.1)

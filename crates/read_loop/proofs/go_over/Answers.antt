@@ -38,8 +38,8 @@ mark_turn-requires c =
     let g = plain-on i o.0 k.ensures k.auto.classes in
     turn-asks g c.if-s-text.true c.turn_after-t.ensures
 
-pub shape_of-words-then-stops : goal.shape_of-words-then-stops
-shape_of-words-then-stops c =
+pub shape_of-words-in-Some : goal.shape_of-words-in-Some
+shape_of-words-in-Some c =
     let o = c.plain_lines-plain.ensures in
     let k = c.mark_plain in
     let i = c.loop-s.invariant in
@@ -47,8 +47,8 @@ shape_of-words-then-stops c =
     let t = c.turn_after-t in
     t.auto.words ∙ holds-words g.ready.stands.recs ∙ sym (holds-words c.requires.1)
 
-pub shape_of-numbers-then-stops : goal.shape_of-numbers-then-stops
-shape_of-numbers-then-stops c =
+pub shape_of-numbers-in-Some : goal.shape_of-numbers-in-Some
+shape_of-numbers-in-Some c =
     let o = c.plain_lines-plain.ensures in
     let k = c.mark_plain in
     let i = c.loop-s.invariant in
@@ -56,35 +56,34 @@ shape_of-numbers-then-stops c =
     let t = c.turn_after-t in
     t.auto.numbers ∙ holds-numbers g.ready.stands.recs ∙ sym (holds-numbers c.requires.1)
 
-pub shape_of-classes-then-stops : goal.shape_of-classes-then-stops
-shape_of-classes-then-stops c =
+pub shape_of-classes-in-Some : goal.shape_of-classes-in-Some
+shape_of-classes-in-Some c =
     let o = c.plain_lines-plain.ensures in
     let k = c.mark_plain in
     let i = c.loop-s.invariant in
     let g = plain-on i o.0 k.ensures k.auto.classes in
     c.mark_turn.auto.classes ∙ g.long_c
 
-pub shape_of-reasons-then-stops : goal.shape_of-reasons-then-stops
-shape_of-reasons-then-stops c =
+pub shape_of-reasons-in-Some : goal.shape_of-reasons-in-Some
+shape_of-reasons-in-Some c =
     let o = c.plain_lines-plain.ensures in
     let k = c.mark_plain in
     let i = c.loop-s.invariant in
     let g = plain-on i o.0 k.ensures k.auto.classes in
     c.mark_turn.auto.reasons ∙ g.long_r
 
-pub returns-then-stops : goal.returns-then-stops
-returns-then-stops c =
+pub returns-in-Some : goal.returns-in-Some
+returns-in-Some c =
     let o = c.plain_lines-plain.ensures in
     let k = c.mark_plain in
     let i = c.loop-s.invariant in
     let g = plain-on i o.0 k.ensures k.auto.classes in
     let t = c.turn_after-t in
     let h = c.if-s-text.true in
-    let z = c.stops.ensures.0 c.if-stops.true in
-    turn-stops g h t.ensures t.result.state.line z.0 z.1
+    turn-stops g h t.ensures t.result.state.line (sym c.stops.ensures ∙ c.in-Some.is)
 
-pub loop-s-smaller-else-stops : goal.loop-s-smaller-else-stops
-loop-s-smaller-else-stops c =
+pub loop-s-smaller-in_default : goal.loop-s-smaller-in_default
+loop-s-smaller-in_default c =
     let o = c.plain_lines-plain.ensures in
     let k = c.mark_plain in
     let i = c.loop-s.invariant in
@@ -93,8 +92,8 @@ loop-s-smaller-else-stops c =
     let l = at_after i.ready o.0 in
     omega (arith, h, l, onward g h c.turn_after-t.ensures)
 
-pub loop-s-preserved-else-stops : goal.loop-s-preserved-else-stops
-loop-s-preserved-else-stops c =
+pub loop-s-preserved-in_default : goal.loop-s-preserved-in_default
+loop-s-preserved-in_default c =
     let o = c.plain_lines-plain.ensures in
     let k = c.mark_plain in
     let i = c.loop-s.invariant in
@@ -102,7 +101,7 @@ loop-s-preserved-else-stops c =
     let h = c.if-s-text.true in
     let go = c.turn_after-t.ensures in
     let k = c.mark_turn in
-    turn_on g h go (c.stops.ensures.1 c.if-stops.false) k.ensures.0 k.auto.classes k.ensures.1 k.auto.reasons
+    turn_on g h go (sym c.stops.ensures ∙ c.in_default.is) k.ensures.0 k.auto.classes k.ensures.1 k.auto.reasons
 
 pub loop-s-smaller : goal.loop-s-smaller
 loop-s-smaller c = omega (arith, c.loop-s-test.true, c.if-s-text.false)

@@ -1,43 +1,26 @@
 -- `read_marks::refill` meets its contract. Assumes nothing.
 use native.Mathlib.Omega.{arith}
-use mathlib.Core.Path.{◌≡◌, refl, ap, ◌∙◌}
-use lib.ListN.{set, get_or, length-set}
-use Rattle.scope_lines.specs.Tables.{refilled, swapped}
-use Rattle.scope_lines.proofs.Marks.{refilled-none, refilled-more}
+use mathlib.Core.Path.{ap, ◌∙◌}
+use mathlib.Core.List.{List}
+use Prim.Native.Nat.{ℕ, ◌-◌}
+use lib.ListN.{take, drop, set, get_or}
+use Rattle.std.proofs.lemmas.List.{get_or_default}
+use Rattle.std.proofs.lemmas.List.Edits.{map_over_more}
+use Rattle.scope_lines.specs.Tables.{swapped}
+use Rattle.read_marks.proofs.RefilledLaws.{refilled-part}
 use Rattle.read_marks.proofs.refill.Goals as goal
 
-pub loop-i-init : goal.loop-i-init
-loop-i-init c = let a = c.args in (omega arith, c.requires.0, refl, refilled-none a.classes.now a.from a.k)
-
-pub bounds-classes-i : goal.bounds-classes-i
-bounds-classes-i c = omega arith
-
-pub bounds-classes-i-in-loop-i : goal.bounds-classes-i-in-loop-i
-bounds-classes-i-in-loop-i c = omega arith
-
-pub overflow_add-i : goal.overflow_add-i
-overflow_add-i c = omega arith
-
-pub loop-i-smaller : goal.loop-i-smaller
-loop-i-smaller c = omega arith
-
-pub loop-i-preserved : goal.loop-i-preserved
-loop-i-preserved c =
+pub loop-class-preserved : goal.loop-class-preserved
+loop-class-preserved c =
     let a = c.args in
-    let v = c.loop-i.invariant in (
-      omega arith,
-      omega arith,
-      rw length-set v.2,
-      ap (λ x. set x c.loop-i.i c.swap.result) v.3
-          ∙ refilled-more a.classes.now a.from c.loop-i.i a.k v.0 (omega arith) c.swap.result
-          (c.swap.ensures ∙ ap (λ x. swapped a.k (get_or x c.loop-i.i 0)) v.3),
-    )
-
-pub shape_of-classes : goal.shape_of-classes
-shape_of-classes c = c.loop-i.invariant.2
+    let l = c.loop-class in
+    let part : List ℕ = take (a.to - a.from) (drop a.from a.classes.now) in
+    ap (set l.class-items l.class-index) c.swap.ensures
+    ∙ map_over_more (swapped a.k) part l.class-items l.class-index (get_or l.class-items l.class-index 0)
+    (omega (arith, c.loop-class-test.true)) l.invariant (get_or_default l.class-items l.class-index 0 _ (omega (arith, c.loop-class-test.true, l.auto.class-items)))
 
 pub returns : goal.returns
 returns c =
     let a = c.args in
-    let e : c.loop-i.i ≡ a.to = omega arith in
-    c.loop-i.invariant.3 ∙ ap (λ i. refilled a.classes.now a.from i a.k) e
+    let l = c.loop-class in
+    refilled-part a.classes.now l.class-items a.from a.to a.k l.class-index c.requires.0 c.requires.1 (c.loop-class-test.false) l.invariant

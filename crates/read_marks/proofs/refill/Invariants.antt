@@ -1,12 +1,8 @@
 -- `read_marks::refill` meets its contract. Assumes nothing.
-use Prim.Native.Nat.{◌-◌, ◌≤◌}
-use mathlib.Core.Path.{◌≡◌}
-use lib.ListN.{length}
-use Rattle.scope_lines.specs.Tables.{refilled}
+use Rattle.std.proofs.Common.{◌≡◌, ◌++◌, map, take, drop}
+use Rattle.scope_lines.specs.Tables.{swapped}
 use Rattle.read_marks.proofs.refill.Given as goal
 
-abbrev pub invariant-loop-i : goal.invariant-loop-i
-invariant-loop-i l = (l.from ≤ l.i) × (l.i ≤ l.to) × (length l.classes ≡ length l.initial.classes) × (l.classes ≡ refilled l.initial.classes l.from l.i l.k)
-
-abbrev pub decreases-loop-i : goal.decreases-loop-i
-decreases-loop-i l = l.to - l.i
+abbrev pub invariant-loop-class : goal.invariant-loop-class
+invariant-loop-class l =
+    l.class-items ≡ map (swapped l.k) (take l.class-index l.initial.class-items) ++ drop l.class-index l.initial.class-items

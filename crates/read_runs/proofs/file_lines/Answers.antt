@@ -90,7 +90,7 @@ returns-in-Err c =
     let d = sym is-data.ensures ∙ if2.true in
     let g = loop.invariant in
     let h = if1.true in
-    unstored g h z.0 q.1 q.2 q.3 z.1 d Store-Line.ensures c.in-Err.is c.reason_number.ensures
+    unstored g h z.0 q.1 q.2 q.3 z.1 d Store-Line.ensures c.in-Err.is
 
 pub shape_of-words-else-is_data : goal.shape_of-words-else-is_data
 shape_of-words-else-is_data c =

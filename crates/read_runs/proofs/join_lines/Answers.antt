@@ -39,7 +39,7 @@ loop-t-preserved c =
     let is-joined = c.is_joined in
     let if2 = c.if-is_joined in
     let pre = c.requires in
-    joined loop.invariant if1.true pre.2 refl line-end.ensures (sym is-joined.ensures ∙ if2.true) c.moved-t.ensures
+    joined loop.invariant if1.true pre.2 refl line-end.ensures (rw c.is_some.ensures at (sym is-joined.ensures ∙ if2.true)) c.moved-t.ensures
 
 pub returns-else-is_joined : goal.returns-else-is_joined
 returns-else-is_joined c = left-joined c.loop-t.invariant c.requires.2

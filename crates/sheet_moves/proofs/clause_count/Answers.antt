@@ -1,14 +1,9 @@
 -- `sheet_moves::clause_count` meets its contract. Assumes nothing.
 use native.Mathlib.Omega.{arith}
-use mathlib.Core.Path.{◌≡◌, ap, ◌∙◌}
-use lib.ListN.{length}
+use mathlib.Core.Path.{ap}
 use Rattle.scope.specs.declared.Counts.{Counts}
 use Rattle.sheet_moves.proofs.clause_count.Goals as goal
 
-pub returns : goal.returns
-returns c = record {
-  upper_bound = c.least.ensures.1;
-  value = λ m f t.
-      let e : c.counts_at-counts.result.clauses ≡ length m.clauses = ap (λ (n : Counts). n.clauses) (c.counts_at-counts.ensures m t.rest t.counts) in
-      c.least.ensures.2 (omega (arith, e, t.stands.words.known.clauses.bound)) ∙ e;
-}
+pub returns-clause-value : goal.returns-clause-value
+returns-clause-value c = λ m f t.
+    omega (arith, c.min.ensures, ap (λ (n : Counts). n.clauses) (c.counts.ensures m t.rest t.counts), t.stands.words.known.clauses.bound)

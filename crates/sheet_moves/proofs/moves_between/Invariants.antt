@@ -1,4 +1,4 @@
--- `sheet_moves::moves_between` meets its contract. Assumes nothing.
+-- `sheet_moves::moves_between` meets its contract: the loop counts the clauses before k. Assumes nothing.
 use Prim.Native.Nat.{◌-◌, ◌≤◌}
 use mathlib.Core.Path.{◌≡◌}
 use lib.ListN.{length}
@@ -10,8 +10,8 @@ use Rattle.sheet_moves.proofs.moves_between.Given as goal
 
 abbrev pub invariant-loop-k : goal.invariant-loop-k
 invariant-loop-k l =
-    (l.first ≤ l.k) × (l.k - l.first ≤ l.end - l.first) × Few (l.k - l.first) l.n × ((m : Network) → Stands m l.words l.numbers → l.end ≤ length m.clauses → l.n ≡ sofar l.which l.otherwise m.clauses l.first l.k)
-
-abbrev pub decreases-loop-k : goal.decreases-loop-k
-decreases-loop-k l =
-    l.end - l.k
+    record {
+      within : l.k - l.first ≤ l.end - l.first;
+      few : Few (l.k - l.first) l.n;
+      value : (m : Network) → Stands m l.stored.words.now l.stored.numbers.now → l.end ≤ length m.clauses → l.n ≡ sofar l.which l.otherwise m.clauses l.first l.k;
+    }

@@ -1,31 +1,19 @@
--- `stored_parts::conditions_between` meets its contract. Assumes nothing.
+-- `stored_parts::conditions_between` meets its contract: the places that pass are counted. Assumes nothing.
+use Prim.Native.Nat.{◌-◌}
 use native.Mathlib.Omega.{arith}
+use mathlib.Core.Path.{◌∙◌, refl}
 use lib.ListN.{get_or}
+use Rattle.std.proofs.Common.{rules, tests}
+use Rattle.std.proofs.lemmas.Iterator.{YieldsList-from_range}
+use Rattle.std.proofs.lemmas.Iterator.Consumers.{YieldsList-from_filter, count_from_yields_List}
 use Rattle.scope.specs.Records.{no_clause}
 use Rattle.scope.specs.Rules.{is_condition}
-use Rattle.stored_parts.proofs.PartsLaws.{none_yet, one_more, up-to-the-end, condition-back}
+use Rattle.stored_parts.proofs.PartsLaws.{counted}
 use Rattle.stored_parts.proofs.conditions_between.Goals as goal
 
-pub loop-k-init : goal.loop-k-init
-loop-k-init c = (omega arith, omega arith, omega arith, λ m g le. none_yet is_condition c.args.first m.clauses)
-
-pub loop-k-preserved : goal.loop-k-preserved
-loop-k-preserved c = (
-  omega arith,
-  omega arith,
-  omega (arith, c.one_if-n.ensures.upper_bound),
-  λ m g le. rw (
-    c.one_if-n.ensures.value,
-    c.is_condition.ensures,
-    c.clause_at.ensures m g,
-    condition-back (get_or m.clauses c.loop-k.k no_clause),
-  )
-      (one_more is_condition c.args.first c.loop-k.k m.clauses no_clause c.loop-k.n c.loop-k.invariant.0 (omega (arith, le)) (c.loop-k.invariant.3 m g le)),
-)
-
-pub returns : goal.returns
-returns c =
-    record {
-      upper_bound = omega arith;
-      value = λ m g le. up-to-the-end is_condition c.args.first c.loop-k.k c.args.end m.clauses c.loop-k.n (omega arith) (c.loop-k.invariant.3 m g le);
-    }
+pub returns-clause-value : goal.returns-clause-value
+returns-clause-value c = λ m g le.
+    count_from_yields_List c.filter.result c.count.result c.count.ensures.ran
+    (YieldsList-from_filter _ (λ k. is_condition (get_or m.clauses k no_clause))
+    (YieldsList-from_range c.args.first c.args.end (c.args.end - c.args.first) c.filter.ensures.source refl) c.filter.ensures.closure (λ x r q k. search (rules, tests)))
+    ∙ counted is_condition m.clauses no_clause c.args.first (c.args.end - c.args.first) (omega (arith, le))

@@ -1,30 +1,17 @@
--- `stored_parts::parts_of` meets its contract: the loop counts those before k. Assumes nothing.
+-- `stored_parts::parts_of` meets its contract: the places that pass are counted. Assumes nothing.
 use native.Mathlib.Omega.{arith}
-use mathlib.Core.Path.{◌≡◌}
-use lib.ListN.{length}
+use mathlib.Core.Path.{◌∙◌}
+use lib.ListN.{get_or}
+use Rattle.std.proofs.Common.{rules, tests}
+use Rattle.std.proofs.lemmas.Iterator.{YieldsList-from_range}
+use Rattle.std.proofs.lemmas.Iterator.Consumers.{YieldsList-from_filter, count_from_yields_List}
 use Rattle.stored_parts.specs.Parts.{owners, is_place}
-use Rattle.stored_parts.proofs.PartsLaws.{none_yet, one_more, all-of-them}
+use Rattle.stored_parts.proofs.PartsLaws.{all-counted}
 use Rattle.stored_parts.proofs.parts_of.Goals as goal
-
-pub loop-k-init : goal.loop-k-init
-loop-k-init c =
-    let given = c.args in
-    (omega arith, omega arith, λ m g le. none_yet (is_place given.owner) 0 (owners given.part m))
-
-pub loop-k-preserved : goal.loop-k-preserved
-loop-k-preserved c =
-    let loop = c.loop-k in
-    let given = c.args in (
-      omega arith,
-      omega (arith, c.one_if-n.ensures.upper_bound),
-      λ m g le.
-          rw (c.one_if-n.ensures.value, c.owner_at-o.ensures m g (omega (arith, le)))
-          (one_more (is_place given.owner) 0 loop.k (owners given.part m) 0 loop.n (omega arith) (omega (arith, le)) (loop.invariant.2 m g le)),
-    )
 
 pub returns : goal.returns
 returns c = λ m rest g e.
-    let loop = c.loop-k in
-    let given = c.args in
-    let l : c.how_many-all.result ≡ length (owners given.part m) = c.how_many-all.ensures m rest e in
-    all-of-them (is_place given.owner) loop.k (owners given.part m) loop.n (omega (arith, l)) (loop.invariant.2 m g (omega (arith, l)))
+    count_from_yields_List c.filter.result c.count.result c.count.ensures.ran
+    (YieldsList-from_filter _ (λ k. is_place c.args.owner (get_or (owners c.args.part m) k 0))
+    (YieldsList-from_range 0 c.how_many.result c.how_many.result c.filter.ensures.source (omega arith)) c.filter.ensures.closure (λ x r q k. search (rules, tests)))
+    ∙ all-counted (is_place c.args.owner) (owners c.args.part m) 0 (c.how_many.ensures m rest e)

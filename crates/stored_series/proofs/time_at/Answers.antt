@@ -1,16 +1,16 @@
 -- `stored_series::time_at` meets its contract. Assumes nothing.
 use Rattle.std.specs.Prelude.{None}
-use mathlib.Core.Path.{sym, ap, ◌∙◌}
-use lib.ListN.{length}
 use native.Mathlib.Omega.{arith}
+use mathlib.Core.Path.{ap, ◌∙◌}
+use Rattle.scope.specs.Layout.{times_at, times_width}
 use Rattle.stored_words.specs.Words.{amount_of}
-use Rattle.stored_counts.proofs.RoomLaws.{room-is}
-use Rattle.stored_records.proofs.PastLaws.{past_words}
-use Rattle.scope.specs.Layout.{room_times}
+use Rattle.stored_records.proofs.PastLaws.{past_row}
+use Rattle.stored_series.proofs.BackLaws.{time-is}
 use Rattle.stored_series.proofs.time_at.Goals as goal
 
-pub time_row-requires : goal.time_row-requires
-time_row-requires c = room-is (length c.args.words.now) room_times c.args.i (sym c.has_room.ensures ∙ c.if-has_room.true)
+pub returns-in_err-row : goal.returns-in_err-row
+returns-in_err-row c = λ m f g.
+    c.from_residual.ensures ∙ ap amount_of (past_row g m.times None c.args.i (omega (arith, g.words.known.times)) times_at times_width (omega arith) c.in_err-row.ensures)
 
 pub returns : goal.returns
-returns c = λ m f g. ap amount_of (past_words g m.times None c.args.i (omega (arith, g.words.known.times)) (sym c.has_room.ensures ∙ c.if-has_room.false))
+returns c = λ m f g. c.amount_from.ensures ∙ time-is g c.args.i _ c.in_ok-row.ensures.1 c.in_ok-row.ensures.0

@@ -1,9 +1,0 @@
--- `stored_words::found_from` meets its contract. Assumes nothing.
-use borrow.Author.Tests.{ne_eqb}
-use Rattle.stored_words.proofs.found_from.Goals as goal
-
-pub returns-then-n-eq0 : goal.returns-then-n-eq0
-returns-then-n-eq0 c = rw c.if-n-eq0.true
-
-pub returns : goal.returns
-returns c = rw (ne_eqb c.args.n 0 c.if-n-eq0.false)
