@@ -4,14 +4,13 @@
 ghost use Rattle.std.specs.Prelude.{◌≡◌, List, ℕ, ◌+◌, ◌≤◌, ◌<◌, length};
 ghost use Rattle.scope.specs.Records.{Network, Clause, with_clauses};
 ghost use Rattle.scope.specs.Sections.{room_clauses};
-ghost use Rattle.scope.specs.Values.{good, on_read};
 ghost use Rattle.scope.specs.Rules.{Draft, no_draft, judged};
 ghost use Rattle.table_rows.specs.Holding.{Words};
-ghost use Rattle.rule_lines.specs.Lines.{with_said, said_read, LineFits};
-ghost use Rattle.rule_groups.specs.Sketches.{Sketched, SketchAs, JudgedAs};
+ghost use Rattle.rule_lines.specs.Lines.{with_said, said_in, SayingFits};
+ghost use Rattle.rule_groups.specs.Sketches.{Sketched, JudgedAs};
 
 use leaf_fields::Span;
-use rule_lines::LineRead;
+use rule_lines::Saying;
 use scope::{Counts, Kind, Reason};
 
 // ---- the lines
@@ -20,8 +19,7 @@ use scope::{Counts, Kind, Reason};
 #[derive(Clone, Copy)]
 pub struct Sketch {
     pub id: Option<Span>,
-    pub ranked: bool,
-    pub priority: u64,
+    pub priority: Option<u64>,
     pub acting: bool,
     pub otherwise: bool,
     pub clauses: usize,
@@ -34,8 +32,7 @@ pub fn no_sketch() -> Sketch
 {
     Sketch {
         id: None,
-        ranked: false,
-        priority: 0,
+        priority: None,
         acting: false,
         otherwise: false,
         clauses: 0,
@@ -45,53 +42,28 @@ pub fn no_sketch() -> Sketch
 }
 
 // The sketch with one line more.
-pub fn see(q: Sketch, read: LineRead) -> Result<Sketch, Reason>
+pub fn see(q: Sketch, said: Saying) -> Sketch
     requires { q.clauses + 1 < 18446744073709551616 }
-    ensures { (text : List ℕ) (d : Draft) → Sketched text d q → LineFits text read → SketchAs text (on_read (said_read text read) (λ s. good (with_said s d))) result }
+    ensures { (text : List ℕ) (d : Draft) → Sketched text d q → SayingFits text said → Sketched text (with_said (said_in text said) d) result }
 {
-    let id = q.id;
-    match read {
-        LineRead::Named(s) => Ok(Sketch {
-            id: Some(s),
-            ranked: q.ranked,
-            priority: q.priority,
-            acting: q.acting,
-            otherwise: q.otherwise,
-            clauses: q.clauses,
-            conditions: q.conditions,
-            actions: q.actions,
-        }),
-        LineRead::Ranked(n) => Ok(Sketch {
-            id,
-            ranked: true,
-            priority: n,
-            acting: q.acting,
-            otherwise: q.otherwise,
-            clauses: q.clauses,
-            conditions: q.conditions,
-            actions: q.actions,
-        }),
-        LineRead::Condition(_) => Ok(Sketch {
-            id,
-            ranked: q.ranked,
-            priority: q.priority,
-            acting: q.acting,
-            otherwise: q.otherwise,
+    match said {
+        Saying::Named(id) => Sketch { id: Some(id), ..q },
+        Saying::Ranked(n) => Sketch {
+            priority: Some(n),
+            ..q
+        },
+        Saying::Condition(_) => Sketch {
             clauses: q.clauses + 1,
             conditions: true,
-            actions: q.actions,
-        }),
-        LineRead::Action(a) => Ok(Sketch {
-            id,
-            ranked: q.ranked,
-            priority: q.priority,
+            ..q
+        },
+        Saying::Action(a) => Sketch {
             acting: a.acting,
             otherwise: a.otherwise,
             clauses: q.clauses + 1,
-            conditions: q.conditions,
             actions: true,
-        }),
-        LineRead::Refused(why) => Err(why),
+            ..q
+        },
     }
 }
 
@@ -104,30 +76,25 @@ pub fn judge_group(text: &[u8], q: Sketch, words: &[u64], s: Counts) -> Result<S
         → s.rules ≡ length m.rules → s.clauses ≡ length m.clauses → Sketched text.now d q
         → JudgedAs text.now d m (judged d m) result }
 {
-    if q.conditions {
-        if q.actions {
-            let named = q.id;
-            let Some(id) = named else {
-                return Err(Reason::NoId);
-            };
-            let found = table_find::find_named(
-                text,
-                words,
-                Kind::Rules,
-                s.rules,
-                leaf_fields::letters_of(text, id),
-            );
-            let None = found else {
-                return Err(Reason::Used);
-            };
-            if s.rules < table_rows::RULES_MOST {
-                if q.clauses <= table_rows::CLAUSES_MOST - s.clauses {
-                    return Ok(id);
-                }
-            }
-            return Err(Reason::NoRoom);
-        }
+    if !q.conditions {
+        return Err(Reason::NoCondition);
+    }
+    if !q.actions {
         return Err(Reason::NoAction);
     }
-    Err(Reason::NoCondition)
+    let id = q.id.ok_or(Reason::NoId)?;
+    let used = table_find::find_named(
+        text,
+        words,
+        Kind::Rules,
+        s.rules,
+        leaf_fields::letters_of(text, id),
+    );
+    if used.is_some() {
+        return Err(Reason::Used);
+    }
+    if table_rows::RULES_MOST <= s.rules || table_rows::CLAUSES_MOST - s.clauses < q.clauses {
+        return Err(Reason::NoRoom);
+    }
+    Ok(id)
 }
