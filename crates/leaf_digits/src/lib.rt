@@ -35,12 +35,22 @@ pub fn class_of(b: u8) -> Class
     }
 }
 
+// Early returns and loops by index stay in `is_digit`, `ends_at` and `few_digits`, in `reach` and `is_space` of `leaf_scans`, in `leaf_letters::cut` and in
+// `leaf_fields::letters_of`: with &&, for and min in all of them the full district took 18 % more instructions.
 // Whether b is a digit. Most bytes of a number are, and the two comparisons are all that one costs: behind them the compiler drops the match.
-#[tactic(auto, using(crate::proofs::Classes::no_digit))]
 pub fn is_digit(b: u8) -> bool
     ensures { result ≡ is Class.Digit b }
 {
-    b'0' <= b && b <= b'9' && matches!(class_of(b), Class::Digit)
+    if b < b'0' {
+        return false;
+    }
+    if b > b'9' {
+        return false;
+    }
+    match class_of(b) {
+        Class::Digit => true,
+        _ => false,
+    }
 }
 
 // What a digit counts. The byte less that of 0 is what `is_digit` compares, so that the compiler has it already.
@@ -48,7 +58,7 @@ pub fn digit_value(b: u8) -> u64
     requires { (48 ≤ b) × (b ≤ 57) }
     ensures { result ≡ b - 48 }
 {
-    u64::from(b - b'0')
+    (b - b'0') as u64
 }
 
 // A letter in lower case.
@@ -67,10 +77,17 @@ pub fn lowered(b: u8) -> u8
 pub fn ends_at(s: &[u8], i: usize) -> bool
     ensures { result ≡ ended (drop i s.now) }
 {
-    let Some(b) = s.get(i) else {
-        return true;
-    };
-    *b <= b' ' && matches!(class_of(*b), Class::Space)
+    if i < s.len() {
+        let b = s[i];
+        if b' ' < b {
+            return false;
+        }
+        return match class_of(b) {
+            Class::Space => true,
+            _ => false,
+        };
+    }
+    true
 }
 
 // ---- digits in a row
@@ -123,16 +140,16 @@ pub fn few_digits(s: &[u8], from: usize, to: usize, start: u64) -> Few
     requires { (from ≤ length s.now) × (to ≤ length s.now) × Room start from to }
     ensures { Scanned s.now from start result.end result.value × Room result.value result.end to }
 {
+    let mut i = from;
     let mut v = start;
-    for i in from..to {
+    while i < to {
         let b = s[i];
-        if !is_digit(b) {
+        if is_digit(b) {
+            v = v * 10 + digit_value(b);
+        } else {
             return Few { end: i, value: v };
         }
-        v = v * 10 + digit_value(b);
+        i += 1;
     }
-    Few {
-        end: from.max(to),
-        value: v,
-    }
+    Few { end: i, value: v }
 }

@@ -143,6 +143,9 @@ part-take (suc a) (suc e) zero l h = absurd (omega arith)
 part-take (suc a) (suc e) (suc n) [] h = refl
 part-take (suc a) (suc e) (suc n) (x ∷ l) h = rw suc-sub-suc (part-take a e n l (omega arith))
 
+pub part_none : (a e : ℕ) (l : List ℕ) → e ≤ a → part a e l ≡ []
+part_none a e l h = let k : e - a ≡ 0 = omega arith in rw k
+
 -- ---- past the next field
 module _ (l : List ℕ) (at : ℕ) (f : Option Span) (n : Next l at f) where
   pub past-taken : (s : Span) → f ≡ Some s → Past l at s.end

@@ -17,7 +17,10 @@ pub struct Span {
 pub fn letters_of(l: &[u8], s: Span) -> &[u8]
     ensures { result.now ≡ part s.at s.end l.now }
 {
-    leaf_letters::cut(l, s.at, s.end.saturating_sub(s.at))
+    if s.end < s.at {
+        return leaf_letters::cut(l, s.at, 0);
+    }
+    leaf_letters::cut(l, s.at, s.end - s.at)
 }
 
 // Where the whitespace from `at` on ends: the next field starts there, if there is one.

@@ -8,8 +8,15 @@ ghost use Rattle.leaf_letters.specs.Words.{same, raised, spelled, begins};
 pub fn cut(text: &[u8], at: usize, n: usize) -> &[u8]
     ensures { result.now ≡ take n (drop at text.now) }
 {
-    let rest = &text[at.min(text.len())..];
-    &rest[..n.min(rest.len())]
+    let len = text.len();
+    if len < at {
+        return &text[len..];
+    }
+    if len - at < n {
+        return &text[at..];
+    }
+    let e = at + n;
+    &text[at..e]
 }
 
 // Whether two texts are the same.

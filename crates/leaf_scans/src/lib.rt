@@ -15,7 +15,11 @@ use leaf_digits::Class;
 pub fn is_space(b: u8) -> bool
     ensures { result ≡ is_space b }
 {
-    b <= b' ' && matches!(leaf_digits::class_of(b), Class::Space)
+    if b' ' < b {
+        return false;
+    }
+    let k = leaf_digits::class_of(b);
+    if let Class::Space = k { true } else { false }
 }
 
 // What the scan below passes over: whitespace; a field.
@@ -38,12 +42,16 @@ fn is_kind(k: Kind, b: u8) -> bool
 pub fn reach(l: &[u8], at: usize, k: Kind) -> usize
     ensures { result ≡ at + span_len k (drop at l.now) }
 {
-    for i in at..l.len() {
-        if !is_kind(k, l[i]) {
+    let mut i = at;
+    while i < l.len() {
+        let ok = is_kind(k, l[i]);
+        if ok {
+            i += 1;
+        } else {
             return i;
         }
     }
-    at.max(l.len())
+    i
 }
 
 // ---- lines

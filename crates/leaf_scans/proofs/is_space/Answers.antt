@@ -1,8 +1,14 @@
 -- `leaf_scans::is_space` meets its contract. Assumes nothing.
-use Rattle.std.proofs.Common.{arith}
-use Rattle.std.proofs.lemmas.Grind.{common_steps}
-use Rattle.leaf_digits.proofs.Classes.{above-space}
+use mathlib.Core.Path.{sym}
+use Rattle.leaf_digits.specs.declared.Class.TheVariants.{Space}
+use Rattle.leaf_digits.proofs.Classes.{is-class, not-class, above-space}
 use Rattle.leaf_scans.proofs.is_space.Goals as goal
 
-pub returns-else-b-le32 : goal.returns-else-b-le32
-returns-else-b-le32 c = let h = above-space c.args.b c.if-b-le32.false in grind (arith, common_steps, h)
+pub returns-then-b-gt32 : goal.returns-then-b-gt32
+returns-then-b-gt32 c = sym (above-space c.args.b c.if-b-gt32.true)
+
+pub returns-in-Space : goal.returns-in-Space
+returns-in-Space c = sym (is-class Space c.args.b c.class_of-k.ensures c.in-Space.is)
+
+pub returns-in_default : goal.returns-in_default
+returns-in_default c = sym (not-class Space c.args.b c.class_of-k.ensures c.in_default.not-Space)

@@ -1,19 +1,31 @@
 -- `leaf_scans::reach` meets its contract. Assumes nothing.
 use native.Mathlib.Omega.{arith}
 use native.Mathlib.Numerals.{add-one}
-use mathlib.Core.Path.{sym, ◌∙◌}
+use mathlib.Core.Path.{refl, sym, ◌∙◌}
 use Rattle.leaf_scans.proofs.ScanLaws.{span-on, span-off, span-end}
 use Rattle.leaf_scans.proofs.reach.Goals as goal
 
-pub returns-then-not-is_kind : goal.returns-then-not-is_kind
-returns-then-not-is_kind c =
-    let a = c.args in
-    omega (arith, span-off a.k a.l.now c.loop-i.i c.loop-i-test.true (sym c.is_kind.ensures ∙ c.if-not-is_kind.true))
+pub loop-i-init : goal.loop-i-init
+loop-i-init c = refl
+
+pub bounds-l-i : goal.bounds-l-i
+bounds-l-i c = omega arith
+
+pub overflow_add-i : goal.overflow_add-i
+overflow_add-i c = omega arith
+
+pub loop-i-smaller : goal.loop-i-smaller
+loop-i-smaller c = omega arith
 
 pub loop-i-preserved : goal.loop-i-preserved
 loop-i-preserved c =
     let a = c.args in
-    (omega arith, rw add-one (omega (arith, span-on a.k a.l.now c.loop-i.i c.loop-i-test.true (sym c.is_kind.ensures ∙ c.if-not-is_kind.false))))
+    rw add-one (omega (arith, span-on a.k a.l.now c.loop-i.i c.loop-i-test.true (sym c.is_kind-ok.ensures ∙ c.if-ok.true)))
+
+pub returns-else-ok : goal.returns-else-ok
+returns-else-ok c =
+    let a = c.args in
+    omega (arith, span-off a.k a.l.now c.loop-i.i c.loop-i-test.true (sym c.is_kind-ok.ensures ∙ c.if-ok.false))
 
 pub returns : goal.returns
 returns c =
