@@ -44,9 +44,5 @@ pub fn read_count(s: &[u8]) -> Option<u64>
     let Class::Sign = leaf_digits::class_of(*b) else {
         return read_whole(s);
     };
-    if *b == b'+' {
-        read_whole(rest)
-    } else {
-        None
-    }
+    if *b == b'+' { read_whole(rest) } else { None }
 }

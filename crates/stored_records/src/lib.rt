@@ -9,7 +9,10 @@ ghost use Rattle.stored_records.specs.Back.{condition_by, action_by, clause_by, 
 ghost use Rattle.scope.specs.Layout.{name_length};
 
 use leaf_fields::Span;
-use scope::{Action, Comparison, Condition, LinkKind, Operator, Pipe, PipeStatus, Pump, Tank, Target, Value, Valve, ValveType};
+use scope::{
+    Action, Comparison, Condition, LinkKind, Operator, Pipe, PipeStatus, Pump, Tank, Target, Value,
+    Valve, ValveType,
+};
 use stored_counts::Stored;
 use table_codes::Coded;
 

@@ -17,7 +17,7 @@ returns-in_err-x c =
     let a = c.args in
     let (e, is, q) = err_from_is_err_and c.from_residual.result c.from_residual.ensures.1 in
     let p = by-nearest a.time.now a.unit.now c.from_residual.result
-      (with_number a.time.now a.unit.now _ c.colon_at-at.ensures _ c.if-at-time.false _ (sym c.in_err-x.was ∙ c.read_number.ensures.value) (is ∙ ap Err q)) in
+    (with_number a.time.now a.unit.now _ c.colon_at-at.ensures _ c.if-at-time.false _ (sym c.in_err-x.was ∙ c.read_number.ensures.value) (is ∙ ap Err q)) in
     record { value = p.0; nearest = p.1 }
 
 pub returns-in_err-unit : goal.returns-in_err-unit
@@ -26,7 +26,7 @@ returns-in_err-unit c =
     let (e, is, q) = err_from_is_err_and c.from_residual-in_err-unit.result c.from_residual-in_err-unit.ensures.1 in
     let none = unit-none c.in_ok-x.x _ _ (rw c.unit_of.ensures at (sym c.ok_or.ensures.value ∙ c.in_err-unit.was)) in
     let p = by-nearest a.time.now a.unit.now c.from_residual-in_err-unit.result
-      (with_number a.time.now a.unit.now _ c.colon_at-at.ensures _ c.if-at-time.false _ (sym c.in_ok-x.was ∙ c.read_number.ensures.value) (is ∙ ap Err q ∙ none)) in
+    (with_number a.time.now a.unit.now _ c.colon_at-at.ensures _ c.if-at-time.false _ (sym c.in_ok-x.was ∙ c.read_number.ensures.value) (is ∙ ap Err q ∙ none)) in
     record { value = p.0; nearest = p.1 }
 
 pub returns : goal.returns
@@ -34,5 +34,5 @@ returns c =
     let a = c.args in
     let some = unit-some c.in_ok-x.x _ _ (rw c.unit_of.ensures at (sym c.ok_or.ensures.value ∙ c.in_ok-unit.was)) in
     let p = by-nearest a.time.now a.unit.now (Ok c.in_unit.result)
-      (with_number a.time.now a.unit.now _ c.colon_at-at.ensures _ c.if-at-time.false _ (sym c.in_ok-x.was ∙ c.read_number.ensures.value) (ap Ok c.in_unit.ensures ∙ some)) in
+    (with_number a.time.now a.unit.now _ c.colon_at-at.ensures _ c.if-at-time.false _ (sym c.in_ok-x.was ∙ c.read_number.ensures.value) (ap Ok c.in_unit.ensures ∙ some)) in
     record { value = p.0; nearest = p.1 }
