@@ -36,7 +36,7 @@ pub fn class_of(b: u8) -> Class
 }
 
 // Early returns and loops by index stay in `is_digit`, `ends_at` and `few_digits`, in `reach` and `is_space` of `leaf_scans`, in `leaf_letters::cut` and in
-// `leaf_fields::letters_of`: with &&, for and min in all of them the full district took 18 % more instructions.
+// `leaf_fields::letters_of`: a build with &&, for and min in all of them took 18 % more instructions on the full district (which of its new forms cost how much was not measured).
 // Whether b is a digit. Most bytes of a number are, and the two comparisons are all that one costs: behind them the compiler drops the match.
 pub fn is_digit(b: u8) -> bool
     ensures { result ≡ is Class.Digit b }

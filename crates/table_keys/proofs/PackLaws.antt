@@ -7,8 +7,6 @@ use mathlib.Core.List.{List, [], ◌∷◌, ◌++◌}
 use lib.ListN.{length, take, drop, get_or, length-take, length-drop, take-append-drop}
 use lib.Seq.{take_all, take-take, take-suc, get_or-drop}
 use lib.Pow.{pow-add, high}
-use Rattle.std.specs.Array.{IsFirstChunk}
-use Rattle.std.specs.Int.{w64, from_be_bytes}
 use Rattle.leaf_fields.specs.Fields.{part}
 use Rattle.leaf_fields.proofs.FieldLaws.{length_part}
 use Rattle.scope.specs.Tables.{packed, key_of}
@@ -100,25 +98,32 @@ key-none (x ∷ l) e = absurd (omega (arith, e))
 pub starts-inside : (text : List ℕ) (at end : ℕ) → (length (part at end text) ≡ 0 → ⊥) → at ≤ length text
 starts-inside text at end h = omega (arith, h, length-take (end - at) (drop at text), length-drop at text)
 
--- eight bytes, as the library makes one number of them
-eight-packed : (l : List ℕ) → length l ≡ 8 → from_be_bytes w64 l ≡ packed 0 l
+-- four bytes, and eight of two times four
+pub four-packed : (l : List ℕ) → length l ≡ 4 → ((get_or l 0 0 * 256 + get_or l 1 0) * 256 + get_or l 2 0) * 256 + get_or l 3 0 ≡ packed 0 l
 unfolding packed
-eight-packed (a ∷ b ∷ c ∷ d ∷ e ∷ f ∷ g ∷ h ∷ []) n = omega arith
-eight-packed [] n = absurd (omega (arith, n))
-eight-packed (a ∷ []) n = absurd (omega (arith, n))
-eight-packed (a ∷ b ∷ []) n = absurd (omega (arith, n))
-eight-packed (a ∷ b ∷ c ∷ []) n = absurd (omega (arith, n))
-eight-packed (a ∷ b ∷ c ∷ d ∷ []) n = absurd (omega (arith, n))
-eight-packed (a ∷ b ∷ c ∷ d ∷ e ∷ []) n = absurd (omega (arith, n))
-eight-packed (a ∷ b ∷ c ∷ d ∷ e ∷ f ∷ []) n = absurd (omega (arith, n))
-eight-packed (a ∷ b ∷ c ∷ d ∷ e ∷ f ∷ g ∷ []) n = absurd (omega (arith, n))
-eight-packed (a ∷ b ∷ c ∷ d ∷ e ∷ f ∷ g ∷ h ∷ x ∷ l) n = absurd (omega (arith, n))
+four-packed (a ∷ b ∷ c ∷ d ∷ []) e = sym (packed-first a (b ∷ c ∷ d ∷ []))
+four-packed [] e = absurd (omega (arith, e))
+four-packed (a ∷ []) e = absurd (omega (arith, e))
+four-packed (a ∷ b ∷ []) e = absurd (omega (arith, e))
+four-packed (a ∷ b ∷ c ∷ []) e = absurd (omega (arith, e))
+four-packed (a ∷ b ∷ c ∷ d ∷ x ∷ l) e = absurd (omega (arith, e))
 
--- the eight bytes that a text has from a place on
-pub eight-at : (text l : List ℕ) (at : ℕ) → IsFirstChunk (take (length text - at) (drop at text)) l 8 → (at + 8 ≤ length text) × (from_be_bytes w64 l ≡ packed 0 (part at (at + 8) text))
-eight-at text l at h =
-    let t : take (length text - at) (drop at text) ≡ drop at text = take_all (length text - at) (drop at text) (omega (arith, length-drop at text)) in
-    let k : at + 8 ≤ length text = omega (arith, h.enough, ap length t, length-drop at text) in
-    let y : at + 8 - at ≡ 8 = omega arith in
-    let e : l ≡ part at (at + 8) text = h.same ∙ ap (take 8) t ∙ ap (λ n. take n (drop at text)) (sym y) in
-    (k, eight-packed l (ap length e ∙ long text at k) ∙ ap (packed 0) e)
+module _ (l : List ℕ) (n : length l ≡ 8) (h : Bytes l) where
+  front : length (take 4 l) ≡ 4
+  front = omega (arith, length-take 4 l, n)
+
+  back : take (length l - 4) (drop 4 l) ≡ drop 4 l
+  back = take_all (length l - 4) (drop 4 l) (omega (arith, length-drop 4 l))
+
+  short : length (drop 4 l) ≡ 4
+  short = omega (arith, length-drop 4 l, n)
+
+  pub first_fits : (x : ℕ) → x ≡ packed 0 (take 4 l) → x < 0x1_0000_0000
+  first_fits x e = rw e (rw front at (packed_lt (take 4 l) (bytes_take 4 l h)))
+
+  module _ (y : ℕ) (e : y ≡ packed 0 (take (length l - 4) (drop 4 l))) where
+    pub last_fits : y < 0x1_0000_0000
+    last_fits = rw (e, back) (rw short at (packed_lt (drop 4 l) (λ i. rw (get_or-drop 4 l i 0) (h (4 + i)))))
+
+    pub eight-packed : (x : ℕ) → x ≡ packed 0 (take 4 l) → x * 0x1_0000_0000 + y ≡ packed 0 l
+    eight-packed x ex = rw (ex, e, back) (sym (rw short at (packed-split 4 l)))

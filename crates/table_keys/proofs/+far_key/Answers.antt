@@ -1,5 +1,5 @@
 -- `table_keys::far_key` meets its contract: it calls itself with a letter less. Assumes nothing.
-use Rattle.std.proofs.Common.{ℕ, ◌+◌, ◌-◌, ◌*◌, ap, ◌∙◌, arith}
+use Rattle.std.proofs.Common.{◌-◌, arith}
 use Rattle.table_keys.proofs.PackLaws.{far_none, far-next, far-fits}
 use Rattle.table_keys.proofs.+far_key.Goals as goal
 
@@ -19,4 +19,4 @@ overflow_add-result t c =
     )
 
 pub returns : goal.returns
-returns t c = ap (λ (x : ℕ). c.far_key.result * 256 + x) c.from.ensures ∙ far-next c.args.l.now c.args.n _ c.if-n-eq0.false (omega arith) c.far_key.ensures
+returns t c = far-next c.args.l.now c.args.n _ c.if-n-eq0.false (omega arith) c.far_key.ensures
