@@ -18,14 +18,11 @@ fn falls_behind(words: &[u64], numbers: &[f64], points: usize, curve: usize, x: 
     requires { (points ≤ room_points) × (length words.now ≡ record_words) × (length numbers.now ≡ room_numbers) }
     ensures { (text : List ℕ) (m : Network) → Words text m words.now → Numbers m numbers.now → points ≡ length m.points → result ≡ falls x (last_x curve m.points) }
 {
-    let mut k = points;
-    while 0 < k {
-        let j = k - 1;
+    for j in (0..points).rev() {
         if words[table_rows::POINTS_AT + j] == curve as u64 {
             let row = table_rows::POINT_NUMBERS_AT + j * table_rows::POINT_NUMBERS_WIDTH;
             return x < numbers[row + table_rows::POINT_X];
         }
-        k = j;
     }
     false
 }
@@ -36,33 +33,35 @@ fn put_point(words: &mut [u64], numbers: &mut [f64], k: usize, curve: usize, x: 
     ensures { (words.new ≡ splice words.old (points_at + k) (curve ∷ []))
         × (numbers.new ≡ splice numbers.old (point_numbers_at + k * point_numbers_width) (x ∷ y ∷ [])) }
 {
-    table_rows::paste_words(words, table_rows::POINTS_AT + k, &[curve as u64]);
-    table_rows::paste_numbers(
+    table_rows::paste(words, table_rows::POINTS_AT + k, &[curve as u64]);
+    table_rows::paste(
         numbers,
         table_rows::POINT_NUMBERS_AT + k * table_rows::POINT_NUMBERS_WIDTH,
         &[x, y],
     );
 }
 
-fn store_point(text: &[u8], p: PairLine, s: Counts, words: &mut [u64], numbers: &mut [f64]) -> Result<Counts, Reason>
+fn store_point(
+    text: &[u8],
+    p: PairLine,
+    s: Counts,
+    words: &mut [u64],
+    numbers: &mut [f64],
+) -> Result<Counts, Reason>
     requires { Sound text.now s words.old numbers.old × Fits text.now p.id }
     ensures { (m : Network) → Holds text.now m s words.old numbers.old
         → After text.now (add_point (name_in text.now p.id) p.x p.y m) result words.old numbers.old words.new numbers.new }
 {
-    let id = p.id;
     let n = s.curves;
     let k = s.points;
-    let found = table_find::find_at(text, words, Kind::Curves, n, id);
-    let mut t = s;
-    t.points = k + 1;
-    match found {
+    match table_find::find_at(text, words, Kind::Curves, n, p.id) {
         Some(i) => {
             if falls_behind(words, numbers, k, i, p.x) {
                 return Err(Reason::XFalls);
             }
             if k < table_rows::POINTS_MOST {
                 put_point(words, numbers, k, i, p.x, p.y);
-                return Ok(t);
+                return Ok(Counts { points: k + 1, ..s });
             }
             Err(Reason::NoRoom)
         }
@@ -71,15 +70,18 @@ fn store_point(text: &[u8], p: PairLine, s: Counts, words: &mut [u64], numbers: 
                 if k < table_rows::POINTS_MOST {
                     table_rows::put_id(
                         text,
-                        id,
+                        p.id,
                         n,
                         table_rows::CURVES_AT,
                         table_rows::CURVE_SLOTS_AT,
                         words,
                     );
                     put_point(words, numbers, k, n, p.x, p.y);
-                    t.curves = n + 1;
-                    return Ok(t);
+                    return Ok(Counts {
+                        curves: n + 1,
+                        points: k + 1,
+                        ..s
+                    });
                 }
             }
             Err(Reason::NoRoom)
@@ -100,9 +102,6 @@ pub fn curve_line(
     ensures { (m : Network) → Holds text.now m s words.old numbers.old
         → After text.now (curve_step (fields_at (take end text.now) at) m) result words.old numbers.old words.new numbers.new }
 {
-    let read = parse_pairs::read_pair(&text[..end], at);
-    match read {
-        Ok(p) => store_point(text, p, s, words, numbers),
-        Err(why) => Err(why),
-    }
+    let p = parse_pairs::read_pair(&text[..end], at)?;
+    store_point(text, p, s, words, numbers)
 }

@@ -59,9 +59,8 @@ fn put_demand(
     ensures { (words.new ≡ splice words.old (demands_at + k * demands_width)
         (demand_words (demand_at node d.base (opt_in text.now d.pattern)))) × (numbers.new ≡ splice numbers.old (demand_numbers_at + k) (d.base ∷ [])) }
 {
-    let pattern = d.pattern;
-    let p = table_rows::name_words(text, pattern);
-    table_rows::paste_words(
+    let p = table_rows::name_words(text, d.pattern);
+    table_rows::paste(
         words,
         table_rows::DEMANDS_AT + k * table_rows::DEMANDS_WIDTH,
         &[
@@ -72,7 +71,7 @@ fn put_demand(
             0,
         ],
     );
-    table_rows::paste_numbers(numbers, table_rows::DEMAND_NUMBERS_AT + k, &[d.base]);
+    table_rows::paste(numbers, table_rows::DEMAND_NUMBERS_AT + k, &[d.base]);
 }
 
 // The junction's own demand gives its room to its first line.
@@ -89,8 +88,7 @@ fn add_demand(
         → After text.now (add_demand node d.base (opt_in text.now d.pattern) m) result words.old numbers.old words.new numbers.new }
 {
     let n = s.demands;
-    let own = own_demand(words, n, node);
-    match own {
+    match own_demand(words, n, node) {
         Some(k) => {
             put_demand(text, d, node, k, words, numbers);
             Ok(s)
@@ -103,9 +101,10 @@ fn add_demand(
                     table_rows::DEMAND_SLOTS_AT + node % table_rows::DEMAND_SLOTS_MOST,
                     n,
                 );
-                let mut t = s;
-                t.demands = n + 1;
-                return Ok(t);
+                return Ok(Counts {
+                    demands: n + 1,
+                    ..s
+                });
             }
             Err(Reason::NoRoom)
         }
@@ -124,10 +123,7 @@ fn store_demand(
         → After text.now (set_demand (name_in text.now d.id) d.base (opt_in text.now d.pattern) m) result words.old
         numbers.old words.new numbers.new }
 {
-    let found = table_find::node_named(text, words, s.nodes, d.id);
-    let Some(i) = found else {
-        return Err(Reason::NotFound);
-    };
+    let i = table_find::node_named(text, words, s.nodes, d.id).ok_or(Reason::NotFound)?;
     if table_find::is_junction(words, i) {
         return add_demand(text, d, i, s, words, numbers);
     }
@@ -147,9 +143,6 @@ pub fn demand_line(
     ensures { (m : Network) → Holds text.now m s words.old numbers.old
         → After text.now (demand_step (fields_at (take end text.now) at) m) result words.old numbers.old words.new numbers.new }
 {
-    let read = parse_series::read_demand(&text[..end], at);
-    match read {
-        Ok(d) => store_demand(text, d, s, words, numbers),
-        Err(why) => Err(why),
-    }
+    let d = parse_series::read_demand(&text[..end], at)?;
+    store_demand(text, d, s, words, numbers)
 }

@@ -1,8 +1,12 @@
 -- A node as it is stored. Assumes nothing.
 use Rattle.leaf_fields.specs.declared.Span.{Span}
-use Rattle.std.specs.Prelude.{ℕ, ◌≡◌, List, [], ◌∷◌, ◌++◌, Float, None, Option}
+use Rattle.std.specs.Prelude.{ℕ, ◌≡◌, ◌<◌, cond, ltb, length, List, [], ◌∷◌, ◌++◌, Float, Err, None, Ok, Option, Result}
 use Rattle.leaf_fields.specs.Fields.{Name, opt_in}
-use Rattle.scope.specs.Records.{Node, NodeKind}
+use Rattle.scope.specs.declared.Reason.{Reason}
+use Rattle.scope.specs.declared.Reason.TheVariants.{Used, NoRoom}
+use Rattle.scope.specs.Records.{Network, Node, NodeKind, lookup, node_ids}
+use Rattle.scope.specs.Sections.{room_nodes}
+use Rattle.scope.specs.Values.{Read, bad, on_found}
 use Rattle.scope.specs.Tables.{id_words, name_words, kind_words, node_numbers}
 use Rattle.table_rows.specs.Holding.{SitsOr, pattern_in}
 
@@ -23,3 +27,8 @@ pub record KindAs (text : List ℕ) (k : NodeKind) (kind : ℕ) (name : Option S
   pub words : kind_words k ≡ kind ∷ name_words (opt_in text name) ++ (last ∷ [])
   pub numbers : (id : Name) → node_numbers (new_node id k) ≡ amounts
   pub pattern : SitsOr text (pattern_in k)
+
+-- the words of the id of one more node of m; or why there is no such node: another has its name, or there is no room. No step that adds a node then has another answer
+abbrev pub NewId : Name → Network → Result (List ℕ) Reason → Type 0
+NewId id m (Ok who) = (who ≡ id_words id) × (lookup (node_ids m) id.letters ≡ None) × (length m.nodes < room_nodes)
+NewId id m (Err why) = (o : Read Network) → on_found (lookup (node_ids m) id.letters) (λ i. bad Used) (cond (ltb (length m.nodes) room_nodes) o (bad NoRoom)) ≡ bad why

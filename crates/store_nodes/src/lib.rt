@@ -3,22 +3,21 @@
 
 ghost use Rattle.std.specs.Prelude.{◌≡◌, ◌+◌, ◌*◌, ◌%◌, ◌≤◌, ◌<◌, length, take};
 ghost use Rattle.leaf_fields.specs.Fields.{Name, fields_at, name_in, Fits, opt_in, MayFit};
-ghost use Rattle.scope.specs.Records.{Network, Node, NodeKind};
+ghost use Rattle.scope.specs.Records.{Network, NodeKind};
 ghost use Rattle.scope.specs.Sections.{room_nodes, room_demands};
-ghost use Rattle.scope.specs.Values.{Read, on_read};
-ghost use Rattle.scope.specs.Nodes.{junction_node, tank_node, junction_demand, add_junction, add_node, junction_step, reservoir_step, tank_step};
+ghost use Rattle.scope.specs.Nodes.{junction_node, junction_demand, add_junction, add_node, junction_step, reservoir_step, tank_step};
 ghost use Rattle.scope.specs.Tables.{key_of, marked, slot_of, id_words, node_numbers, demand_numbers};
 ghost use Rattle.table_rows.specs.Table.{splice};
 ghost use Rattle.scope.specs.Layout.{nodes_at, nodes_width, node_slots_at, node_numbers_at, node_numbers_width, demands_at, demands_width, demand_slots_at, demand_numbers_at};
 ghost use Rattle.scope.specs.Layout.{record_words, room_numbers, demand_slots_long};
 ghost use Rattle.table_rows.specs.Adding.{node_added, demand_added};
-ghost use Rattle.table_rows.specs.Holding.{Holds, Sound, After};
-ghost use Rattle.parse_nodes.specs.Lines.{junction_in, reservoir_in, tank_in, NodeAs};
-ghost use Rattle.store_nodes.specs.Storing.{new_node, new_words, own_words, KindAs};
+ghost use Rattle.table_rows.specs.Holding.{Words, Holds, Sound, After};
+ghost use Rattle.parse_nodes.specs.Lines.{junction_in, reservoir_in, basin_in, node_in, NodeFits};
+ghost use Rattle.store_nodes.specs.Storing.{new_node, new_words, own_words, KindAs, NewId};
 
 use leaf_fields::Span;
-use parse_nodes::{JunctionLine, NodeRead, ReservoirLine};
-use scope::{Counts, Kind, Reason, Tank};
+use parse_nodes::{JunctionLine, NodeLine, ReservoirLine, TankLine};
+use scope::{Counts, Kind, Reason};
 
 // ---- storing them
 
@@ -38,7 +37,7 @@ fn put_node(
         (node_slots_at + slot_of (key_of id.letters)) (i + 1) }
 {
     let which = table_rows::name_words(text, name);
-    table_rows::paste_words(
+    table_rows::paste(
         words,
         table_rows::NODES_AT + i * table_rows::NODES_WIDTH,
         &[
@@ -63,7 +62,7 @@ fn put_demand(text: &[u8], d: usize, n: usize, pattern: Option<Span>, words: &mu
         (demand_slots_at + n % demand_slots_long) (d + 1) }
 {
     let which = table_rows::name_words(text, pattern);
-    table_rows::paste_words(
+    table_rows::paste(
         words,
         table_rows::DEMANDS_AT + d * table_rows::DEMANDS_WIDTH,
         &[
@@ -96,24 +95,45 @@ fn put_junction(
         × (numbers.new ≡ splice (splice numbers.old (node_numbers_at + n * node_numbers_width)
         (node_numbers (junction_node (junction_in text.now j)))) (demand_numbers_at + d) (demand_numbers (junction_demand n (junction_in text.now j)))) }
 {
-    let pattern = j.pattern;
     let disabled = table_rows::flag_of(j.disabled);
-    put_node(
-        text,
-        n,
-        who,
-        table_codes::JUNCTION,
-        None,
-        disabled,
-        words,
-    );
-    put_demand(text, d, n, pattern, words);
-    table_rows::paste_numbers(
+    put_node(text, n, who, table_codes::JUNCTION, None, disabled, words);
+    put_demand(text, d, n, j.pattern, words);
+    table_rows::paste(
         numbers,
         table_rows::NODE_NUMBERS_AT + n * table_rows::NODE_NUMBERS_WIDTH,
         &[j.elevation, 0.0, 0.0, 0.0, 0.0, 0.0, 0.0, 0.0],
     );
-    table_rows::paste_numbers(numbers, table_rows::DEMAND_NUMBERS_AT + d, &[j.demand]);
+    table_rows::paste(numbers, table_rows::DEMAND_NUMBERS_AT + d, &[j.demand]);
+}
+
+// The words of the id of one more node: no node has it, and there is room for one.
+fn new_id(
+    text: &[u8],
+    id: Span,
+    s: Counts,
+    words: &[u64],
+) -> Result<[u64; table_rows::ID_WIDTH], Reason>
+    requires { (m : Network) × Words text.now m words.now × (s.nodes ≡ length m.nodes) }
+    ensures { (m : Network) → Words text.now m words.now → s.nodes ≡ length m.nodes → NewId (name_in text.now id) m result }
+{
+    let who = table_rows::id_words(text, id);
+    let letters = leaf_fields::letters_of(text, id);
+    if table_find::find(
+        text,
+        words,
+        Kind::Nodes,
+        s.nodes,
+        who[table_rows::ID_KEY],
+        letters,
+    )
+    .is_some()
+    {
+        return Err(Reason::Used);
+    }
+    if s.nodes < table_rows::NODES_MOST {
+        return Ok(who);
+    }
+    Err(Reason::NoRoom)
 }
 
 fn store_junction(
@@ -129,26 +149,14 @@ fn store_junction(
 {
     let n = s.nodes;
     let d = s.demands;
-    let who = table_rows::id_words(text, j.id);
-    let found = table_find::find(
-        text,
-        words,
-        Kind::Nodes,
-        n,
-        who[table_rows::ID_KEY],
-        leaf_fields::letters_of(text, j.id),
-    );
-    if let Some(_) = found {
-        return Err(Reason::Used);
-    }
-    if n < table_rows::NODES_MOST {
-        if d < table_rows::DEMANDS_MOST {
-            put_junction(text, j, who, n, d, words, numbers);
-            let mut t = s;
-            t.nodes = n + 1;
-            t.demands = d + 1;
-            return Ok(t);
-        }
+    let who = new_id(text, j.id, s, words)?;
+    if d < table_rows::DEMANDS_MOST {
+        put_junction(text, j, who, n, d, words, numbers);
+        return Ok(Counts {
+            nodes: n + 1,
+            demands: d + 1,
+            ..s
+        });
     }
     Err(Reason::NoRoom)
 }
@@ -171,30 +179,14 @@ fn store_node(
         → After text.now (add_node (new_node (name_in text.now id) k) m) result words.old numbers.old words.new numbers.new }
 {
     let n = s.nodes;
-    let who = table_rows::id_words(text, id);
-    let found = table_find::find(
-        text,
-        words,
-        Kind::Nodes,
-        n,
-        who[table_rows::ID_KEY],
-        leaf_fields::letters_of(text, id),
+    let who = new_id(text, id, s, words)?;
+    put_node(text, n, who, kind, name, last, words);
+    table_rows::paste(
+        numbers,
+        table_rows::NODE_NUMBERS_AT + n * table_rows::NODE_NUMBERS_WIDTH,
+        amounts,
     );
-    if let Some(_) = found {
-        return Err(Reason::Used);
-    }
-    if n < table_rows::NODES_MOST {
-        put_node(text, n, who, kind, name, last, words);
-        table_rows::paste_numbers(
-            numbers,
-            table_rows::NODE_NUMBERS_AT + n * table_rows::NODE_NUMBERS_WIDTH,
-            amounts,
-        );
-        let mut t = s;
-        t.nodes = n + 1;
-        return Ok(t);
-    }
-    Err(Reason::NoRoom)
+    Ok(Counts { nodes: n + 1, ..s })
 }
 
 fn store_reservoir(
@@ -208,13 +200,11 @@ fn store_reservoir(
     ensures { Fits text.now r.id → MayFit text.now r.pattern → (m : Network) → Holds text.now m s words.old numbers.old
         → After text.now (add_node (reservoir_in text.now r) m) result words.old numbers.old words.new numbers.new }
 {
-    let id = r.id;
-    let pattern = r.pattern;
     store_node(
         text,
-        id,
+        r.id,
         table_codes::RESERVOIR,
-        pattern,
+        r.pattern,
         0,
         &[r.elevation, 0.0, 0.0, 0.0, 0.0, 0.0, 0.0, 0.0],
         s,
@@ -225,24 +215,22 @@ fn store_reservoir(
 
 fn store_tank(
     text: &[u8],
-    id: Span,
-    tank: Tank,
+    t: TankLine,
     s: Counts,
     words: &mut [u64],
     numbers: &mut [f64],
 ) -> Result<Counts, Reason>
     requires { Sound text.now s words.old numbers.old }
-    ensures { Fits text.now id → (m : Network) → Holds text.now m s words.old numbers.old
-        → After text.now (add_node (tank_node (name_in text.now id) (tank_in text.now tank)) m) result words.old
-        numbers.old words.new numbers.new }
+    ensures { Fits text.now t.id → (m : Network) → Holds text.now m s words.old numbers.old
+        → After text.now (add_node (basin_in text.now t) m) result words.old numbers.old words.new numbers.new }
 {
-    let curve = tank.curve;
+    let tank = t.tank;
     let overflow = table_rows::flag_of(tank.overflow);
     store_node(
         text,
-        id,
+        t.id,
         table_codes::TANK,
-        curve,
+        tank.curve,
         overflow,
         &[
             tank.elevation,
@@ -261,21 +249,20 @@ fn store_tank(
 }
 
 // What a line of RESERVOIRS or TANKS says, stored.
-fn store_read(
+fn store_line(
     text: &[u8],
-    read: NodeRead,
+    line: NodeLine,
     s: Counts,
     words: &mut [u64],
     numbers: &mut [f64],
 ) -> Result<Counts, Reason>
     requires { Sound text.now s words.old numbers.old }
-    ensures { (o : Read Node) → NodeAs text.now o read → (m : Network) → Holds text.now m s words.old numbers.old
-        → After text.now (on_read o (λ n. add_node n m)) result words.old numbers.old words.new numbers.new }
+    ensures { NodeFits text.now line → (m : Network) → Holds text.now m s words.old numbers.old
+        → After text.now (add_node (node_in text.now line) m) result words.old numbers.old words.new numbers.new }
 {
-    match read {
-        NodeRead::Reservoir(r) => store_reservoir(text, r, s, words, numbers),
-        NodeRead::Basin(t) => store_tank(text, t.id, t.tank, s, words, numbers),
-        NodeRead::NoNode(why) => Err(why),
+    match line {
+        NodeLine::Reservoir(r) => store_reservoir(text, r, s, words, numbers),
+        NodeLine::Tank(t) => store_tank(text, t, s, words, numbers),
     }
 }
 
@@ -294,11 +281,8 @@ pub fn junction_line(
     ensures { (m : Network) → Holds text.now m s words.old numbers.old
         → After text.now (junction_step (fields_at (take end text.now) at) m) result words.old numbers.old words.new numbers.new }
 {
-    let read = parse_nodes::read_junction(&text[..end], at);
-    match read {
-        Ok(j) => store_junction(text, j, s, words, numbers),
-        Err(why) => Err(why),
-    }
+    let j = parse_nodes::read_junction(&text[..end], at)?;
+    store_junction(text, j, s, words, numbers)
 }
 
 // The line of RESERVOIRS from `at` to `end`.
@@ -314,8 +298,8 @@ pub fn reservoir_line(
     ensures { (m : Network) → Holds text.now m s words.old numbers.old
         → After text.now (reservoir_step (fields_at (take end text.now) at) m) result words.old numbers.old words.new numbers.new }
 {
-    let read = parse_nodes::read_reservoir(&text[..end], at);
-    store_read(text, read, s, words, numbers)
+    let line = parse_nodes::read_reservoir(&text[..end], at)?;
+    store_line(text, line, s, words, numbers)
 }
 
 // The line of TANKS from `at` to `end`.
@@ -331,6 +315,6 @@ pub fn tank_line(
     ensures { (m : Network) → Holds text.now m s words.old numbers.old
         → After text.now (tank_step (fields_at (take end text.now) at) m) result words.old numbers.old words.new numbers.new }
 {
-    let read = parse_tanks::read_tank(&text[..end], at);
-    store_read(text, read, s, words, numbers)
+    let line = parse_tanks::read_tank(&text[..end], at)?;
+    store_line(text, line, s, words, numbers)
 }

@@ -3,25 +3,21 @@ use Prim.Native.Nat.{◌+◌}
 use native.Mathlib.Omega.{arith}
 use lib.ListN.{length}
 use mathlib.Core.Path.{◌≡◌, refl, sym, ◌∙◌}
-use Rattle.scope.specs.Records.{Network}
-use Rattle.scope.specs.Series.{own_from}
-use Rattle.table_rows.specs.Holding.{Holds}
 use Rattle.table_rows.proofs.HoldLaws.{count-demands, bound-demands}
 use Rattle.table_rows.proofs.SlotLaws.{mark-alike}
 use Rattle.table_rows.proofs.AfterLaws.{holds-words, holds-numbers}
 use Rattle.store_demands.proofs.DemandLaws.{own_in, demands-full, appended, replaced}
 use Rattle.store_demands.proofs.add_demand.Goals as goal
 
-pub own_demand-own-requires : goal.own_demand-own-requires
-own_demand-own-requires c = (bound-demands c.requires.0.holds, holds-words c.requires.0.holds)
+pub own_demand-requires : goal.own_demand-requires
+own_demand-requires c = (bound-demands c.requires.0.holds, holds-words c.requires.0.holds)
 
 pub put_demand-requires : goal.put_demand-requires
 put_demand-requires c =
-    let look : (m : Network) → Holds c.args.text.now m c.args.s c.args.words.now c.args.numbers.now → own_from 0 c.args.node m.demands ≡ c.own_demand-own.result = λ m h. sym (c.own_demand-own.ensures c.args.text.now m h.words (count-demands h)) in
     let h = c.requires.0.holds in (
       omega (
         arith,
-        own_in c.args.node c.requires.0.m.demands _ (look c.requires.0.m h ∙ c.in-Some.is),
+        own_in c.args.node c.requires.0.m.demands _ (sym (c.own_demand.ensures c.args.text.now c.requires.0.m h.words (count-demands h)) ∙ c.in-Some.is),
         h.words.known.demands.bound,
       ),
       holds-words h,
@@ -39,25 +35,19 @@ mark-requires c = (
   omega (arith, c.if-n-lt-DEMANDS_MOST.true),
 )
 
-pub overflow_add-t : goal.overflow_add-t
-overflow_add-t c = omega (arith, c.if-n-lt-DEMANDS_MOST.true)
-
 pub returns-then-n-lt-DEMANDS_MOST : goal.returns-then-n-lt-DEMANDS_MOST
 returns-then-n-lt-DEMANDS_MOST c =
-    let look : (m : Network) → Holds c.args.text.now m c.args.s c.args.words.now c.args.numbers.now → own_from 0 c.args.node m.demands ≡ c.own_demand-own.result = λ m h. sym (c.own_demand-own.ensures c.args.text.now m h.words (count-demands h)) in
     λ m h.
     let a = c.args in
-    appended h a.d.base a.d.pattern a.node _ _ (look m h ∙ c.in-None.is) c.requires.1 c.requires.2 c.if-n-lt-DEMANDS_MOST.true
+    appended h a.d.base a.d.pattern a.node _ _ (sym (c.own_demand.ensures c.args.text.now m h.words (count-demands h)) ∙ c.in-None.is) c.requires.1 c.requires.2 c.if-n-lt-DEMANDS_MOST.true
     (mark-alike (a.s.demands + 1) c.mark.ensures c.put_demand-then-n-lt-DEMANDS_MOST.ensures.0 refl)
     c.put_demand-then-n-lt-DEMANDS_MOST.ensures.1
 
 pub returns-in-Some : goal.returns-in-Some
 returns-in-Some c =
-    let look : (m : Network) → Holds c.args.text.now m c.args.s c.args.words.now c.args.numbers.now → own_from 0 c.args.node m.demands ≡ c.own_demand-own.result = λ m h. sym (c.own_demand-own.ensures c.args.text.now m h.words (count-demands h)) in
-    λ m h. replaced h c.args.d.base c.args.d.pattern c.args.node _ _ _ (look m h ∙ c.in-Some.is) c.requires.1
+    λ m h. replaced h c.args.d.base c.args.d.pattern c.args.node _ _ _ (sym (c.own_demand.ensures c.args.text.now m h.words (count-demands h)) ∙ c.in-Some.is) c.requires.1
     c.put_demand.ensures.0 c.put_demand.ensures.1
 
 pub returns-else-n-lt-DEMANDS_MOST : goal.returns-else-n-lt-DEMANDS_MOST
 returns-else-n-lt-DEMANDS_MOST c =
-    let look : (m : Network) → Holds c.args.text.now m c.args.s c.args.words.now c.args.numbers.now → own_from 0 c.args.node m.demands ≡ c.own_demand-own.result = λ m h. sym (c.own_demand-own.ensures c.args.text.now m h.words (count-demands h)) in
-    λ m h. demands-full h c.args.d.base c.args.d.pattern c.args.node (look m h ∙ c.in-None.is) c.if-n-lt-DEMANDS_MOST.false
+    λ m h. demands-full h c.args.d.base c.args.d.pattern c.args.node (sym (c.own_demand.ensures c.args.text.now m h.words (count-demands h)) ∙ c.in-None.is) c.if-n-lt-DEMANDS_MOST.false

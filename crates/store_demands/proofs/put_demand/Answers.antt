@@ -14,17 +14,17 @@ bounds-p-0 c = omega (arith, words-two c.args.text.now c.args.d.pattern c.name_w
 pub bounds-p-1 : goal.bounds-p-1
 bounds-p-1 c = omega (arith, words-two c.args.text.now c.args.d.pattern c.name_words-p.ensures)
 
-pub paste_words-requires : goal.paste_words-requires
-paste_words-requires c =
+pub paste-requires : goal.paste-requires
+paste-requires c =
     omega (arith, c.requires.0, c.requires.1, c.requires.2)
 
-pub paste_numbers-requires : goal.paste_numbers-requires
-paste_numbers-requires c =
+pub paste-requires-2 : goal.paste-requires-2
+paste-requires-2 c =
     omega (arith, c.requires.0, c.requires.1, c.requires.2)
 
 pub returns : goal.returns
 returns c = (
-  c.paste_words.ensures ∙ ap (λ (l : List ℕ). splice c.args.words.now (demands_at + c.args.k * demands_width) l)
+  c.paste.ensures ∙ ap (λ (l : List ℕ). splice c.args.words.now (demands_at + c.args.k * demands_width) l)
       (demand-words c.args.text.now c.args.node c.args.d.base c.args.d.pattern c.name_words-p.result c.name_words-p.ensures),
-  c.paste_numbers.ensures,
+  c.paste-2.ensures,
 )

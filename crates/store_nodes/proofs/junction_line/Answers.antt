@@ -1,23 +1,21 @@
 -- `store_nodes::junction_line` meets its contract. Assumes nothing.
+use Rattle.std.specs.Prelude.{Ok}
 use mathlib.Core.Path.{refl, sym}
-use lib.ListN.{take}
 use lib.Seq.{length-take-le}
-use Rattle.leaf_fields.specs.Fields.{fields_at}
-use Rattle.scope.specs.Nodes.{junction_of}
-use Rattle.store_nodes.proofs.LineLaws.{junction-told, junction-good, junction-bad}
+use Rattle.scope.specs.Nodes.{junction_step}
+use Rattle.parse_fields.proofs.TakeLaws.{handed-on}
+use Rattle.store_nodes.proofs.LineLaws.{junction-text}
 use Rattle.store_nodes.proofs.junction_line.Goals as goal
 
 pub slice_bounds-read_junction-end : goal.slice_bounds-read_junction-end
 slice_bounds-read_junction-end c = sym (length-take-le c.args.end c.args.text.now c.requires.1)
 
-pub returns-in-Ok : goal.returns-in-Ok
-returns-in-Ok c =
-    λ m h. let b = junction-told c.args.text.now c.args.end
-    (junction_of (fields_at (take c.args.end c.args.text.now) c.args.at)) c.in-Ok.is c.read_junction-read.ensures in
-    rw (junction-good (fields_at (take c.args.end c.args.text.now) c.args.at) m b.0) (c.store_junction.ensures b.1 b.2 m h)
+pub returns-in_err-j : goal.returns-in_err-j
+unfolding junction_step
+returns-in_err-j c = λ m h. rw (handed-on c.from_residual.ensures, c.in_err-j.ensures) (refl, refl, refl)
 
-pub returns-in-Err : goal.returns-in-Err
-returns-in-Err c =
-    λ m h. rw (junction-bad (fields_at (take c.args.end c.args.text.now) c.args.at) m
-    (junction-told c.args.text.now c.args.end (junction_of (fields_at (take c.args.end c.args.text.now) c.args.at))
-    c.in-Err.is c.read_junction-read.ensures)) (refl, refl, refl)
+pub returns : goal.returns
+unfolding junction_step
+returns c =
+    λ m h. let (is, fits) = junction-text c.args.text.now c.args.end _ (Ok c.in_ok-j.j) c.in_ok-j.ensures in
+    rw is (c.store_junction.ensures fits.0 fits.1 m h)

@@ -13,6 +13,6 @@ pub returns : goal.returns
 returns c =
     let a = c.args in
     mark-alike (a.d + 1) c.mark.ensures
-    (c.paste_words.ensures
+    (c.paste.ensures
     ∙ ap (λ (l : List ℕ). splice a.words.now (demands_at + a.d * demands_width) l) (own-words c.name_words-which.result a.n (opt_in a.text.now a.pattern) c.name_words-which.ensures))
     refl

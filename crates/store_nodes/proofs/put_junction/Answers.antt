@@ -25,5 +25,5 @@ returns c =
           (c.put_node.ensures (name_in a.text.now a.j.id) c.requires.4
           ∙ ap (λ (z : ℕ). marked (splice a.words.now (nodes_at + a.n * nodes_width) (new_words (name_in a.text.now a.j.id) 1 None z))
           (node_slots_at + slot_of (key_of (name_in a.text.now a.j.id).letters)) (a.n + 1)) c.flag_of-disabled.ensures),
-      c.paste_numbers-2.ensures ∙ ap (λ (l : List Float). splice l (demand_numbers_at + a.d) (a.j.demand ∷ [])) c.paste_numbers.ensures,
+      c.paste-2.ensures ∙ ap (λ (l : List Float). splice l (demand_numbers_at + a.d) (a.j.demand ∷ [])) c.paste.ensures,
     )

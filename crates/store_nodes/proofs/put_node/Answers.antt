@@ -16,6 +16,6 @@ returns c = λ id e.
     let a = c.args in
     let which = c.name_words-which in
     mark-alike (a.i + 1) c.mark.ensures
-    (c.paste_words.ensures
+    (c.paste.ensures
     ∙ ap (λ (l : List ℕ). splice a.words.now (nodes_at + a.i * nodes_width) l) (new-words a.who which.result id a.kind (opt_in a.text.now a.name) a.last e which.ensures))
     (ap (λ (k : ℕ). node_slots_at + k) (c.slot_of-slot.ensures ∙ ap (λ (l : List ℕ). slot_of (get_or l 2 0)) e))

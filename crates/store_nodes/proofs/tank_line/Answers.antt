@@ -1,17 +1,21 @@
 -- `store_nodes::tank_line` meets its contract. Assumes nothing.
-use mathlib.Core.Path.{sym}
-use lib.ListN.{take}
+use Rattle.std.specs.Prelude.{Ok}
+use mathlib.Core.Path.{refl, sym}
 use lib.Seq.{length-take-le}
-use Rattle.leaf_fields.specs.Fields.{fields_at}
-use Rattle.scope.specs.Nodes.{tank_of, tank_step}
-use Rattle.store_nodes.proofs.LineLaws.{node-as-text}
+use Rattle.scope.specs.Nodes.{tank_step}
+use Rattle.parse_fields.proofs.TakeLaws.{handed-on}
+use Rattle.store_nodes.proofs.LineLaws.{node-text}
 use Rattle.store_nodes.proofs.tank_line.Goals as goal
 
 pub slice_bounds-read_tank-end : goal.slice_bounds-read_tank-end
 slice_bounds-read_tank-end c = sym (length-take-le c.args.end c.args.text.now c.requires.1)
 
+pub returns-in_err-line : goal.returns-in_err-line
+unfolding tank_step
+returns-in_err-line c = λ m h. rw (handed-on c.from_residual.ensures, c.in_err-line.ensures) (refl, refl, refl)
+
 pub returns : goal.returns
 unfolding tank_step
 returns c =
-    λ m h. c.store_read.ensures (tank_of (fields_at (take c.args.end c.args.text.now) c.args.at))
-    (node-as-text c.args.text.now c.args.end (tank_of (fields_at (take c.args.end c.args.text.now) c.args.at)) c.read_tank-read.result c.read_tank-read.ensures) m h
+    λ m h. let (is, fits) = node-text c.args.text.now c.args.end _ (Ok c.in_ok-line.line) c.in_ok-line.ensures in
+    rw is (c.store_line.ensures fits m h)
