@@ -43,24 +43,22 @@ fn spell_two(a: &[u8], b: &[u8], first: &[u8], second: &[u8]) -> bool
     leaf_letters::spells(a, first) && leaf_letters::spells(b, second)
 }
 
-#[tactic(auto, unfolding(scope::specs::Times::option_of_two))]
+// The options of two words.
+static OF_TWO: [(&[u8], &[u8], TimeOption); 5] = [
+    (b"HYDRAULIC", b"TIMESTEP", TimeOption::HydraulicTimestep),
+    (b"PATTERN", b"TIMESTEP", TimeOption::PatternTimestep),
+    (b"REPORT", b"TIMESTEP", TimeOption::ReportTimestep),
+    (b"PATTERN", b"START", TimeOption::PatternStart),
+    (b"START", b"CLOCKTIME", TimeOption::StartClocktime),
+];
+
 fn option_of_two(a: &[u8], b: &[u8]) -> TimeOption
     ensures { result ≡ option_of_two a.now b.now }
 {
-    if spell_two(a, b, b"HYDRAULIC", b"TIMESTEP") {
-        return TimeOption::HydraulicTimestep;
-    }
-    if spell_two(a, b, b"PATTERN", b"TIMESTEP") {
-        return TimeOption::PatternTimestep;
-    }
-    if spell_two(a, b, b"REPORT", b"TIMESTEP") {
-        return TimeOption::ReportTimestep;
-    }
-    if spell_two(a, b, b"PATTERN", b"START") {
-        return TimeOption::PatternStart;
-    }
-    if spell_two(a, b, b"START", b"CLOCKTIME") {
-        return TimeOption::StartClocktime;
+    for (first, second, option) in &OF_TWO {
+        if spell_two(a, b, first, second) {
+            return *option;
+        }
     }
     TimeOption::Dropped
 }
