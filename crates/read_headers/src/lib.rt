@@ -15,6 +15,7 @@ use scope::Section;
 
 // ---- the section that a header opens: `w` is the header's line, trimmed. A chain of four, as a check grows with the square of a chain's length
 
+#[tactic(auto, unfolding(crate::specs::Sections::other_section))]
 fn other_section(w: &[u8]) -> Section
     ensures { result ≡ other_section w.now }
 {
@@ -33,6 +34,7 @@ fn other_section(w: &[u8]) -> Section
     Section::Passed
 }
 
+#[tactic(auto, unfolding(crate::specs::Sections::series_section))]
 fn series_section(w: &[u8]) -> Section
     ensures { result ≡ series_section w.now }
 {
@@ -48,6 +50,7 @@ fn series_section(w: &[u8]) -> Section
     other_section(w)
 }
 
+#[tactic(auto, unfolding(crate::specs::Sections::link_section))]
 fn link_section(w: &[u8]) -> Section
     ensures { result ≡ link_section w.now }
 {
@@ -63,6 +66,7 @@ fn link_section(w: &[u8]) -> Section
     series_section(w)
 }
 
+#[tactic(auto, unfolding(scope::specs::Sections::section_of, crate::specs::Sections::link_section, crate::specs::Sections::series_section, crate::specs::Sections::other_section))]
 pub fn section_of(w: &[u8]) -> Section
     ensures { result ≡ section_of w.now }
 {
@@ -89,6 +93,7 @@ pub enum Sort {
 }
 
 // A line that is neither blank nor a header, from its first field on.
+#[tactic(auto, unfolding(scope::specs::Lines::sort_by))]
 fn plain_sort(w: &[u8]) -> Sort
     ensures { sort_in result ≡ sort_by kind.other w.now }
 {
@@ -107,11 +112,10 @@ pub fn sort_of(l: &[u8], at: usize) -> Sort
     if l.len() <= start {
         return Sort::Empty;
     }
-    let b = l[start];
-    match b {
-        59 => Sort::Empty,
-        91 => Sort::Heading(section_of(leaf_scans::trimmed(&l[start..]))),
-        82 => plain_sort(&l[start..]),
+    match l[start] {
+        b';' => Sort::Empty,
+        b'[' => Sort::Heading(section_of(leaf_scans::trimmed(&l[start..]))),
+        b'R' => plain_sort(&l[start..]),
         _ => Sort::Other,
     }
 }
@@ -126,8 +130,8 @@ pub fn is_data(l: &[u8], at: usize) -> bool
         return false;
     }
     match l[start] {
-        59 => false,
-        91 => false,
+        b';' => false,
+        b'[' => false,
         _ => true,
     }
 }
@@ -141,9 +145,9 @@ pub fn is_plain(l: &[u8], at: usize) -> bool
         return false;
     }
     match l[start] {
-        59 => false,
-        91 => false,
-        82 => false,
+        b';' => false,
+        b'[' => false,
+        b'R' => false,
         _ => true,
     }
 }
@@ -152,19 +156,13 @@ pub fn is_plain(l: &[u8], at: usize) -> bool
 pub fn is_joined(l: &[u8], at: usize, grouped: bool) -> bool
     ensures { result ≡ cond grouped (plain_by (start_trimmed (drop at l.now))) false }
 {
-    if grouped {
-        return is_plain(l, at);
-    }
-    false
+    grouped && is_plain(l, at)
 }
 
 pub fn in_rules(s: Section) -> bool
     ensures { result ≡ is_rules s }
 {
-    match s {
-        Section::Rules => true,
-        _ => false,
-    }
+    matches!(s, Section::Rules)
 }
 
 // The section after a line.
@@ -172,10 +170,8 @@ pub fn section_by(k: Sort, s: Section) -> Section
     ensures { result ≡ sec_by (sort_in k) s }
 {
     match k {
-        Sort::Empty => s,
-        Sort::Heading(x) => x,
-        Sort::Start => s,
-        Sort::Other => s,
+        Sort::Heading(opened) => opened,
+        Sort::Empty | Sort::Start | Sort::Other => s,
     }
 }
 
@@ -183,12 +179,7 @@ pub fn section_by(k: Sort, s: Section) -> Section
 pub fn own_by(k: Sort, s: Section) -> bool
     ensures { result ≡ own_by is_rules (sort_in k) s }
 {
-    match k {
-        Sort::Empty => false,
-        Sort::Heading(_) => false,
-        Sort::Start => in_rules(s),
-        Sort::Other => in_rules(s),
-    }
+    matches!(k, Sort::Start | Sort::Other) && in_rules(s)
 }
 
 // ---- the lines of a group
