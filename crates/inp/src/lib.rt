@@ -64,6 +64,6 @@ pub extern "C" fn inp_read_survey(
         s.rulerefused as u64,
         s.ruleopen as u64,
     ];
-    table_rows::paste_words(counts, 0, &rec);
+    table_rows::paste(counts, 0, &rec);
     number
 }

@@ -1,7 +1,6 @@
 -- The ways through `strict_in` and through `read_strict`. Assumes nothing.
-use Prim.Native.Nat.{ℕ, ◌≤◌, ◌<◌}
-use borrow.Author.Tests.{lt-ltb, le-ltb}
-use mathlib.Core.Path.{◌≡◌, refl}
+use Prim.Native.Nat.{ℕ}
+use mathlib.Core.Path.{◌≡◌, refl, sym, ◌∙◌, subst}
 use mathlib.Core.Bool.{true, false}
 use mathlib.Core.List.{List}
 use lib.ListN.{length, drop}
@@ -10,10 +9,17 @@ use Rattle.scope.specs.declared.Counts.{Counts}
 use Rattle.scope.specs.declared.Answer.{Answer}
 use Rattle.scope.specs.Records.{no_network, counts_of}
 use Rattle.scope.specs.Layout.{record_words, room_numbers}
-use Rattle.scope.specs.Reading.{all_low, by_text, says, told, strict_of, network_in, strict_network}
-use Rattle.scope.specs.Sections.{room_text}
+use Rattle.scope.specs.Reading.{by_text, says, told, strict_of, network_in, strict_network}
 use Rattle.table_rows.specs.Holding.{Holds}
-use Prim.Native.Nat.{ℕ, ◌≤◌}
+use Rattle.std.specs.Prelude.{Option, None, Some}
+use Rattle.scope.specs.declared.Reason.{Reason}
+use Rattle.scope.specs.declared.Reason.TheVariants.{TooLong, HighByte}
+use Rattle.scope.specs.Answers.{reason_no}
+use Rattle.scope.specs.Records.{Network}
+use Rattle.read_marks.specs.declared.Refusal.{Refusal}
+use Rattle.read_loop.specs.Over.{said_of, Done}
+use Rattle.read_text.proofs.RoomLaws.{whole-by, read-by}
+use Prim.Native.Nat.{ℕ}
 use mathlib.Core.Path.{◌≡◌, refl, sym}
 use mathlib.Core.Bool.{true, false}
 use mathlib.Core.List.{List, ◌++◌}
@@ -28,25 +34,23 @@ use mathlib.Core.Bool.{false≢true}
 use Rattle.read_text.proofs.RoomLaws.{words_left, numbers-left, stands-left}
 
 -- ---- the ways through `strict_in`
--- what the strict loop gives
-abbrev pub Done : List ℕ → List ℕ → List Float → Answer → Counts → Type 0
-Done text w f a c = (a ≡ told (strict_of text)) × Holds text (network_in (strict_of text)) c w f
+abbrev pub Entered : List ℕ → List ℕ → List Float → Option Refusal → Counts → Type 0
+Entered text w f r c = (said_of r ≡ by_text text (says 20 0) (says 21 0) (told (strict_of text))) × Holds text (strict_network text) c w f
 
-abbrev pub Entered : List ℕ → List ℕ → List Float → Answer → Counts → Type 0
-Entered text w f a c = (a ≡ by_text text (says 20 0) (says 21 0) (told (strict_of text))) × Holds text (strict_network text) c w f
-
-module _ (text : List ℕ) {w : List ℕ} {f : List Float} {a : Answer} {c : Counts} where
-  pub in-long : room_text < length text → a ≡ says 20 0 → c ≡ counts_of no_network → Holds text no_network (counts_of no_network) w f → Entered text w f a c
+module _ (text : List ℕ) {w : List ℕ} {f : List Float} {c : Counts} {o : Option Reason} (e : o ≡ by_text text (Some TooLong) (Some HighByte) None) where
+  pub in-whole : {x : Reason} → o ≡ Some x → c ≡ counts_of no_network → Holds text no_network (counts_of no_network) w f → Entered text w f (Some (record { reason = x; piece = 0 })) c
   unfolding strict_network
-  in-long h ea ec hd = rw (lt-ltb room_text (length text) h) (ea, rw ec hd)
+  in-whole q ec hd = (
+    sym (whole-by text e (λ x. says (reason_no x) 0) (told (strict_of text)) q),
+    subst (λ (m : Network). Holds text m c w f) (sym (whole-by text e (λ _. no_network) (network_in (strict_of text)) q)) (rw ec hd),
+  )
 
-  pub in-high : length text ≤ room_text → all_low text ≡ false → a ≡ says 21 0 → c ≡ counts_of no_network → Holds text no_network (counts_of no_network) w f → Entered text w f a c
+  pub in_all : (r : Option Refusal) → o ≡ None → Done text w f r c → Entered text w f r c
   unfolding strict_network
-  in-high h k ea ec hd = rw (le-ltb room_text (length text) h, k) (ea, rw ec hd)
-
-  pub in_all : length text ≤ room_text → all_low text ≡ true → Done text w f a c → Entered text w f a c
-  unfolding strict_network
-  in_all h k d = rw (le-ltb room_text (length text) h, k) d
+  in_all r q d = (
+    d.0 ∙ sym (read-by text e (λ x. says (reason_no x) 0) (told (strict_of text)) q),
+    subst (λ (m : Network). Holds text m c w f) (sym (read-by text e (λ _. no_network) (network_in (strict_of text)) q)) d.1,
+  )
 
 -- ---- the ways through `read_strict`
 module _ (text w : List ℕ) (f : List Float) where

@@ -1,78 +1,50 @@
 // Reads a text line by line into the tables that the caller lends, strictly: up to the first piece that is refused.
 #![tactic(auto)]
 
-ghost use Rattle.std.specs.Prelude.{◌≡◌, false, ◌≤◌, ◌<◌, length};
-ghost use Rattle.scope.specs.Answers.{reason_no};
-ghost use Rattle.scope.specs.Sections.{room_text};
-ghost use Rattle.scope.specs.Records.{no_network, counts_of};
+ghost use Rattle.std.specs.Prelude.{◌≡◌, false, length};
 ghost use Rattle.scope.specs.Layout.{record_words, room_numbers};
-ghost use Rattle.scope.specs.Reading.{by_text, says, told, strict_of, network_in, strict_network, too_small, strict_answer, strict_words, strict_numbers};
+ghost use Rattle.scope.specs.Reading.{by_text, says, told, strict_of, strict_network, too_small, strict_answer, strict_words, strict_numbers};
 ghost use Rattle.table_rows.specs.Holding.{Holds};
 ghost use Rattle.stored_records.specs.Back.{Stands};
+ghost use Rattle.read_loop.specs.Over.{said_of};
 
-use scope::{Answer, Counts, Reason};
+use read_loop::Over;
+use read_marks::Refusal;
+use scope::{Answer, Reason};
+use table_codes::Coded;
 
-// What a reading gives beside the tables: the answer, and how many records they hold.
-#[derive(Clone, Copy)]
-pub struct Strict {
-    pub answer: Answer,
-    pub counts: Counts,
-}
-
-// ---- strict reading
-
-// The lines, up to the first piece that is refused.
-fn run(text: &[u8], words: &mut [u64], numbers: &mut [f64]) -> Strict
-    requires { (length text.now ≤ room_text) × Holds text.now no_network (counts_of no_network) words.old numbers.old }
-    ensures { (result.answer ≡ told (strict_of text.now)) × Holds text.now (network_in (strict_of text.now)) result.counts words.new numbers.new }
+// What is said of a refusal, or of none.
+fn said(refused: Option<Refusal>) -> Answer
+    ensures { result ≡ said_of refused }
 {
-    // Strict reading marks no lines: what is lent for the marks is not used.
-    let mut classes = [0u8; 1];
-    let mut reasons = [0u8; 1];
-    let over = read_loop::go_over(text, false, words, numbers, &mut classes, &mut reasons);
-    let counts = over.counts;
-    Strict {
-        answer: Answer {
-            number: over.reason,
-            line: over.piece,
+    match refused {
+        Some(refusal) => Answer {
+            number: refusal.reason.code(),
+            line: refusal.piece,
         },
-        counts,
+        None => Answer { number: 0, line: 0 },
     }
-}
-
-fn refusal(why: Reason) -> Answer
-    ensures { result ≡ says (reason_no why) 0 }
-{
-    Answer {
-        number: why.code(),
-        line: 0,
-    }
-}
-
-// A text that is refused whole.
-fn unread(why: Reason) -> Strict
-    ensures { (result.answer ≡ says (reason_no why) 0) × (result.counts ≡ counts_of no_network) }
-{
-    let answer = refusal(why);
-    let counts = read_steps::no_counts();
-    Strict { answer, counts }
 }
 
 // Strict reading into tables that are just as long as their room.
-fn strict_in(text: &[u8], words: &mut [u64], numbers: &mut [f64]) -> Strict
+fn strict_in(text: &[u8], words: &mut [u64], numbers: &mut [f64]) -> Over
     requires { (length words.old ≡ record_words) × (length numbers.old ≡ room_numbers) }
-    ensures { (result.answer ≡ by_text text.now (says 20 0) (says 21 0) (told (strict_of text.now)))
+    ensures { (said_of result.refused ≡ by_text text.now (says 20 0) (says 21 0) (told (strict_of text.now)))
         × Holds text.now (strict_network text.now) result.counts words.new numbers.new }
 {
-    table_rows::clear_words(words);
-    table_rows::clear_numbers(numbers);
-    if table_rows::TEXT_ROOM < text.len() {
-        return unread(Reason::TooLong);
+    words.fill(0);
+    numbers.fill(0.0);
+    if let Some(reason) = read_text::refused_whole(text) {
+        return Over {
+            counts: read_steps::no_counts(),
+            lines: 0,
+            refused: Some(Refusal { reason, piece: 0 }),
+        };
     }
-    if read_text::all_low(text) {
-        return run(text, words, numbers);
-    }
-    unread(Reason::HighByte)
+    // Strict reading marks no lines: what is lent for the marks is not used.
+    let mut classes = [0u8; 1];
+    let mut reasons = [0u8; 1];
+    read_loop::go_over(text, false, words, numbers, &mut classes, &mut reasons)
 }
 
 // STRICT: 28 where a table is too small, 20 and 21 for the text, else what the first refused piece gives, or 0.
@@ -83,14 +55,16 @@ pub fn read_strict(text: &[u8], words: &mut [u64], numbers: &mut [f64]) -> Answe
         × (too_small (length words.old) (length numbers.old) ≡ false → Stands (strict_network text.now) words.new numbers.new) }
 {
     if read_text::too_small(words, numbers) {
-        return refusal(Reason::SmallTable);
+        return said(Some(Refusal {
+            reason: Reason::SmallTable,
+            piece: 0,
+        }));
     }
-    let r = strict_in(
+    let over = strict_in(
         text,
         &mut words[..table_rows::RECORD_WORDS],
         &mut numbers[..table_rows::NUMBERS_ROOM],
     );
-    let counts = r.counts;
-    read_text::write_counts(words, counts);
-    r.answer
+    read_text::write_counts(words, over.counts);
+    said(over.refused)
 }

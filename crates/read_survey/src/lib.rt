@@ -1,17 +1,17 @@
 // Surveys a text into the tables that the caller lends: every line is read, whatever is refused, and each has its class and its reason.
 #![tactic(auto)]
 
-ghost use Rattle.std.specs.Prelude.{◌≡◌, ◌≤◌, length, replicate, false};
+ghost use Rattle.std.specs.Prelude.{◌≡◌, length, false};
 ghost use Rattle.scope_lines.specs.Tables.{code_of, reason_in, marks_in};
-ghost use Rattle.scope.specs.Sections.{room_lines, room_text};
+ghost use Rattle.scope.specs.Sections.{room_lines};
 ghost use Rattle.scope.specs.Answers.{reason_no};
-ghost use Rattle.scope.specs.Records.{no_network, counts_of};
 ghost use Rattle.scope.specs.Layout.{record_words, room_numbers};
-ghost use Rattle.scope.specs.Reading.{by_text, marks_of, surveyed, survey_of, no_survey, survey_network, survey_marked, survey_small, survey_answer, survey_words, survey_numbers, survey_classes, survey_reasons};
+ghost use Rattle.scope.specs.Reading.{by_text, survey_of, no_survey, survey_network, survey_marked, survey_small, survey_answer, survey_words, survey_numbers, survey_classes, survey_reasons};
 ghost use Rattle.table_rows.specs.Holding.{Holds};
 ghost use Rattle.stored_records.specs.Back.{Stands};
 
 use scope::{Counts, Reason, Survey};
+use table_codes::Coded;
 
 // What a survey gives beside the tables: the answer, and how many records they hold.
 #[derive(Clone, Copy)]
@@ -37,36 +37,6 @@ fn no_survey(why: Reason) -> Survey
     }
 }
 
-fn unsurveyed(why: Reason) -> Surveyed
-    ensures { (result.survey ≡ no_survey (reason_no why)) × (result.counts ≡ counts_of no_network) }
-{
-    let survey = no_survey(why);
-    let counts = read_steps::no_counts();
-    Surveyed { survey, counts }
-}
-
-// Every line, whatever is refused.
-fn sweep(
-    text: &[u8],
-    words: &mut [u64],
-    numbers: &mut [f64],
-    classes: &mut [u8],
-    reasons: &mut [u8],
-) -> Surveyed
-    requires { (length text.now ≤ room_text) × Holds text.now no_network (counts_of no_network) words.old numbers.old
-        × (length classes.old ≡ room_lines) × (length reasons.old ≡ room_lines)
-        × (classes.old ≡ replicate (length classes.old) 0) × (reasons.old ≡ replicate (length reasons.old) 0) }
-    ensures { (result.survey ≡ survey_of text.now)
-        × Holds text.now (surveyed text.now) result.counts words.new numbers.new
-        × (classes.new ≡ marks_in code_of room_lines (marks_of text.now))
-        × (reasons.new ≡ marks_in reason_in room_lines (marks_of text.now)) }
-{
-    let over = read_loop::go_over(text, true, words, numbers, classes, reasons);
-    let counts = over.counts;
-    let survey = read_marks::counts_of(classes, over.lines);
-    Surveyed { survey, counts }
-}
-
 // A survey into tables that are just as long as their room.
 fn survey_in(
     text: &[u8],
@@ -81,17 +51,21 @@ fn survey_in(
         × (classes.new ≡ marks_in code_of room_lines (survey_marked text.now))
         × (reasons.new ≡ marks_in reason_in room_lines (survey_marked text.now)) }
 {
-    table_rows::clear_words(words);
-    table_rows::clear_numbers(numbers);
+    words.fill(0);
+    numbers.fill(0.0);
     read_marks::clear_bytes(classes);
     read_marks::clear_bytes(reasons);
-    if table_rows::TEXT_ROOM < text.len() {
-        return unsurveyed(Reason::TooLong);
+    if let Some(reason) = read_text::refused_whole(text) {
+        return Surveyed {
+            survey: no_survey(reason),
+            counts: read_steps::no_counts(),
+        };
     }
-    if read_text::all_low(text) {
-        return sweep(text, words, numbers, classes, reasons);
+    let over = read_loop::go_over(text, true, words, numbers, classes, reasons);
+    Surveyed {
+        survey: read_marks::counts_of(classes, over.lines),
+        counts: over.counts,
     }
-    unsurveyed(Reason::HighByte)
 }
 
 // The room of the classes and of the reasons.
@@ -133,7 +107,6 @@ pub fn read_survey(
         &mut classes[..table_rows::LINES_ROOM],
         &mut reasons[..table_rows::LINES_ROOM],
     );
-    let counts = r.counts;
-    read_text::write_counts(words, counts);
+    read_text::write_counts(words, r.counts);
     r.survey
 }

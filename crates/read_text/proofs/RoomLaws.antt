@@ -18,6 +18,13 @@ use Rattle.table_rows.specs.Table.{splice}
 use Rattle.table_rows.specs.Holding.{Words, Numbers, Holds}
 use Rattle.table_rows.proofs.AfterLaws.{holds-words, holds-numbers}
 use Rattle.stored_records.specs.Back.{Stands}
+use mathlib.Core.Bool.{cond}
+use Rattle.std.specs.Prelude.{Option, None, Some}
+use Rattle.std.proofs.lemmas.Option.{none-some}
+use Rattle.scope.specs.declared.Reason.{Reason}
+use Rattle.scope.specs.declared.Reason.TheVariants.{TooLong, HighByte}
+use Rattle.scope.specs.Sections.{room_text}
+use Rattle.scope.specs.Reading.{all_low, by_text}
 use Prim.Native.Nat.{ℕ, ◌≤◌}
 use mathlib.Core.Path.{◌≡◌, refl, ap, ◌∙◌}
 use mathlib.Core.Bool.{Bool, true, false}
@@ -74,3 +81,32 @@ module _ {text : List ℕ} {m : Network} {c : Counts} {x : List ℕ} {y : List F
       ∙ take_at x (tally_words c ++ rest) record_words (holds-words h) in
       let tf = ap (take room_numbers) ef ∙ take_at y (drop room_numbers f) room_numbers (holds-numbers h) in
       record { text = text; words = subst (Words text m) (sym tw) h.words; numbers = subst (Numbers m) (sym tf) h.numbers }
+
+-- ---- a text that is refused whole, or is not
+by-reason : {A : Type 0} (text : List ℕ) (f : Option Reason → A) → by_text text (f (Some TooLong)) (f (Some HighByte)) (f None) ≡ f (by_text text (Some TooLong) (Some HighByte) None)
+by-reason text f = go (ltb room_text (length text)) (all_low text)
+  where
+    go : (long low : Bool) → cond long (f (Some TooLong)) (cond low (f None) (f (Some HighByte))) ≡ f (cond long (Some TooLong) (cond low None (Some HighByte)))
+    go true low = refl
+    go false true = refl
+    go false false = refl
+
+-- what is said of the reason why it is; and of none
+abbrev said-by : {A : Type 0} → A → (Reason → A) → Option Reason → A
+said-by a f None = a
+said-by a f (Some x) = f x
+
+module _ {A : Type 0} (text : List ℕ) {r : Option Reason} (e : r ≡ by_text text (Some TooLong) (Some HighByte) None) where
+  pub whole-by : (f : Reason → A) (a : A) {x : Reason} → r ≡ Some x → by_text text (f TooLong) (f HighByte) a ≡ f x
+  whole-by f a q = by-reason text (said-by a f) ∙ ap (said-by a f) (sym e ∙ q)
+
+  pub read-by : (f : Reason → A) (a : A) → r ≡ None → by_text text (f TooLong) (f HighByte) a ≡ a
+  read-by f a q = by-reason text (said-by a f) ∙ ap (said-by a f) (sym e ∙ q)
+
+-- it is not too long
+pub short-by : (text : List ℕ) {r : Option Reason} → r ≡ by_text text (Some TooLong) (Some HighByte) None → r ≡ None → length text ≤ room_text
+short-by text e q = go (ltb room_text (length text)) refl
+  where
+    go : (b : Bool) → ltb room_text (length text) ≡ b → length text ≤ room_text
+    go false h = ltb-false room_text (length text) h
+    go true h = absurd (none-some TooLong (sym q ∙ e ∙ ap (λ (b : Bool). cond b (Some TooLong) (cond (all_low text) None (Some HighByte))) h))

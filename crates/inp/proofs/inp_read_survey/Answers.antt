@@ -14,4 +14,4 @@ returns-then-number-eq-SMALL c =
 pub returns : goal.returns
 returns c =
     surveyed c.args.text.now c.args.words.now c.args.numbers.now c.args.classes.now c.args.reasons.now
-    c.args.counts.now c.if-counts-lt-COUNTS.false (seen c.read_survey-s.ensures) c.if-number-eq-SMALL.false c.paste_words.ensures
+    c.args.counts.now c.if-counts-lt-COUNTS.false (seen c.read_survey-s.ensures) c.if-number-eq-SMALL.false c.paste.ensures

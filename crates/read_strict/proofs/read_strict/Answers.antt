@@ -18,7 +18,7 @@ shape_of-numbers-then-too_small c = refl
 
 pub returns-then-too_small : goal.returns-then-too_small
 returns-then-too_small c =
-    strict-small c.args.text.now c.args.words.now c.args.numbers.now (sym c.too_small.ensures ∙ c.if-too_small.true) c.refusal.ensures
+    strict-small c.args.text.now c.args.words.now c.args.numbers.now (sym c.too_small.ensures ∙ c.if-too_small.true) c.said.ensures
 
 pub slice_bounds-strict_in-end : goal.slice_bounds-strict_in-end
 slice_bounds-strict_in-end c =
@@ -38,8 +38,8 @@ slice_bounds-strict_in-end-4 c =
     sym (length-take-le room_numbers c.args.numbers.now
     (room (length c.args.words.now) (length c.args.numbers.now) (sym c.too_small.ensures ∙ c.if-too_small.false)).1)
 
-pub strict_in-r-requires : goal.strict_in-r-requires
-strict_in-r-requires c =
+pub strict_in-over-requires : goal.strict_in-over-requires
+strict_in-over-requires c =
     let r = room (length c.args.words.now) (length c.args.numbers.now) (sym c.too_small.ensures ∙ c.if-too_small.false) in
     (length-take-le record_words c.args.words.now (omega (arith, r.0)), length-take-le room_numbers c.args.numbers.now r.1)
 
@@ -47,20 +47,20 @@ pub write_counts-requires : goal.write_counts-requires
 write_counts-requires c =
     let r = room (length c.args.words.now) (length c.args.numbers.now) (sym c.too_small.ensures ∙ c.if-too_small.false) in
     let h : record_words ≤ length c.args.words.now = omega (arith, r.0) in
-    omega (arith, r.0, back_long c.strict_in-r.new.words c.args.words.now record_words (holds-words c.strict_in-r.ensures.1) h)
+    omega (arith, r.0, back_long c.strict_in-over.new.words c.args.words.now record_words (holds-words c.strict_in-over.ensures.1) h)
 
 pub shape_of-words : goal.shape_of-words
 shape_of-words c =
     let r = room (length c.args.words.now) (length c.args.numbers.now) (sym c.too_small.ensures ∙ c.if-too_small.false) in
     let h : record_words ≤ length c.args.words.now = omega (arith, r.0) in
-    c.write_counts.auto.words ∙ back_long c.strict_in-r.new.words c.args.words.now record_words (holds-words c.strict_in-r.ensures.1) h
+    c.write_counts.auto.words ∙ back_long c.strict_in-over.new.words c.args.words.now record_words (holds-words c.strict_in-over.ensures.1) h
 
 pub shape_of-numbers : goal.shape_of-numbers
 shape_of-numbers c =
     let r = room (length c.args.words.now) (length c.args.numbers.now) (sym c.too_small.ensures ∙ c.if-too_small.false) in
-    back_long c.strict_in-r.new.numbers c.args.numbers.now room_numbers (holds-numbers c.strict_in-r.ensures.1) r.1
+    back_long c.strict_in-over.new.numbers c.args.numbers.now room_numbers (holds-numbers c.strict_in-over.ensures.1) r.1
 
 pub returns : goal.returns
 returns c =
     strict-read c.args.text.now c.args.words.now c.args.numbers.now (sym c.too_small.ensures ∙ c.if-too_small.false)
-    c.strict_in-r.ensures.0 c.strict_in-r.ensures.1 c.write_counts.ensures refl
+    (c.said-2.ensures ∙ c.strict_in-over.ensures.0) c.strict_in-over.ensures.1 c.write_counts.ensures refl
