@@ -14,7 +14,7 @@ use Rattle.leaf_fields.specs.declared.Span.{Span}
 use Rattle.scope.specs.declared.Reason.{Reason}
 use Rattle.scope.specs.declared.Counts.{Counts}
 use Rattle.scope.specs.Records.{Network, Rule, Clause, condition, action, counts_of, with_clauses}
-use Rattle.scope.specs.Values.{Read, good, bad, on_read}
+use Rattle.scope.specs.Values.{Read, good, bad}
 use Rattle.scope.specs.Tables.{rule_words, count_words, id_words, name_words}
 use Rattle.scope.specs.Rules.{Draft, lines_of, no_draft, judged, group_step}
 use Rattle.table_rows.specs.Table.{splice}
@@ -24,13 +24,13 @@ use Rattle.table_rows.specs.Holding.{Words, Holds, After}
 use Rattle.table_rows.proofs.HoldLaws.{sits-span, add-rule, add-clause, count-links, count-rules, count-clauses, bound-clauses}
 use Rattle.rule_clauses.specs.Clauses.{condition_in}
 use Rattle.read_headers.specs.Own.{group_fields, NextHere}
-use Rattle.rule_lines.specs.declared.LineRead.{LineRead}
-use Rattle.rule_lines.specs.declared.LineRead.TheVariants as line
-use Rattle.rule_lines.specs.Lines.{action_in, Said, said_id, said_rank, said_condition, said_action, with_said, said_of, said_read, LineFits}
+use Rattle.rule_lines.specs.declared.Saying.{Saying}
+use Rattle.rule_lines.specs.declared.Saying.TheVariants as saying
+use Rattle.rule_lines.specs.Lines.{action_in, Said, with_said, said_of, said_in, SayingFits}
 use Rattle.rule_lines.proofs.LineLaws.{said_same}
 use Rattle.rule_groups.specs.declared.Sketch.{Sketch}
-use Rattle.rule_groups.specs.Sketches.{Sketched, SketchAs, Fine, JudgedAs}
-use Rattle.rule_store.proofs.GoingLaws.{Going, going_start, line-fits, seen-good, going-with, going-bad}
+use Rattle.rule_groups.specs.Sketches.{Sketched, Fine, JudgedAs}
+use Rattle.rule_store.proofs.GoingLaws.{Going, going_start, line-fits, going-with, going-bad}
 use Rattle.rule_store.specs.Group.{rule_in, PutClause, PutFitting, Put, HoldsMore, fitting, Taken, ClausesPut}
 
 -- ---- one line more is stored
@@ -57,30 +57,18 @@ module _ (text : List ℕ) (m : Network) (d : Draft) (w w2 : List ℕ) (f f2 : L
         | inr r ↦ add-one-more c r (e.0 r)
       ]
 
-  put-more : (r : LineRead) → Put text n r w f w2 f2 → (x : Said) → said_read text r ≡ good x → HoldsMore text m (fitting m (with_said x d).clauses) w2 f2
-  put-more (line.Named s) p x e = let z : said_id (name_in text s) ≡ x = cc in subst (λ (y : Said). HoldsMore text m (fitting m (with_said y d).clauses) w2 f2) z (unput p)
-  put-more (line.Ranked j) p x e = let z : said_rank j ≡ x = cc in subst (λ (y : Said). HoldsMore text m (fitting m (with_said y d).clauses) w2 f2) z (unput p)
-  put-more (line.Condition c) p x e = let z : said_condition (condition_in text c) ≡ x = cc in
-      subst (λ (y : Said). HoldsMore text m (fitting m (with_said y d).clauses) w2 f2) z (put_one (condition (condition_in text c)) p)
-  put-more (line.Action a) p x e = let z : said_action a.acting a.otherwise (action_in text a.action) ≡ x = cc in
-      subst (λ (y : Said). HoldsMore text m (fitting m (with_said y d).clauses) w2 f2) z (put_one (action (action_in text a.action)) p)
-  put-more (line.Refused why) p x e = absurd (let z : ◌≡◌ {A = ℕ} 0 1 = cc in omega arith)
-
-  -- a line that is refused puts nothing
-  put-none : (r : LineRead) → Put text n r w f w2 f2 → (why : Reason) → said_read text r ≡ bad why → HoldsMore text m (fitting m d.clauses) w2 f2
-  put-none (line.Named s) p why e = absurd (let z : ◌≡◌ {A = ℕ} 0 1 = cc in omega arith)
-  put-none (line.Ranked j) p why e = absurd (let z : ◌≡◌ {A = ℕ} 0 1 = cc in omega arith)
-  put-none (line.Condition c) p why e = absurd (let z : ◌≡◌ {A = ℕ} 0 1 = cc in omega arith)
-  put-none (line.Action a) p why e = absurd (let z : ◌≡◌ {A = ℕ} 0 1 = cc in omega arith)
-  put-none (line.Refused y) p why e = unput p
+  put-more : (r : Saying) → Put text n r w f w2 f2 → HoldsMore text m (fitting m (with_said (said_in text r) d).clauses) w2 f2
+  put-more (saying.Named s) p = unput p
+  put-more (saying.Ranked j) p = unput p
+  put-more (saying.Condition c) p = put_one (condition (condition_in text c)) p
+  put-more (saying.Action a) p = put_one (action (action_in text a.action)) p
 
 -- where there is no room nothing is put
-pub put_full : (text : List ℕ) (n : ℕ) (r : LineRead) (w : List ℕ) (f : List Float) → room_clauses ≤ n → Put text n r w f w f
-put_full text n (line.Named s) w f h = (refl, refl)
-put_full text n (line.Ranked j) w f h = (refl, refl)
-put_full text n (line.Condition c) w f h = ((λ k. absurd (omega arith)), λ k. (refl, refl))
-put_full text n (line.Action a) w f h = ((λ k. absurd (omega arith)), λ k. (refl, refl))
-put_full text n (line.Refused why) w f h = (refl, refl)
+pub put_full : (text : List ℕ) (n : ℕ) (r : Saying) (w : List ℕ) (f : List Float) → room_clauses ≤ n → Put text n r w f w f
+put_full text n (saying.Named s) w f h = (refl, refl)
+put_full text n (saying.Ranked j) w f h = (refl, refl)
+put_full text n (saying.Condition c) w f h = ((λ k. absurd (omega arith)), λ k. (refl, refl))
+put_full text n (saying.Action a) w f h = ((λ k. absurd (omega arith)), λ k. (refl, refl))
 
 -- ---- where a group is taken
 pub record Started (text : List ℕ) (m : Network) (base links : ℕ) (w : List ℕ) (f : List Float) : Type 0 where
@@ -116,47 +104,32 @@ pub taking-end : {m : Network} {text : List ℕ} {at first p : ℕ} {q : Sketch}
 unfolding lines_of
 taking-end t e w0 f0 = (t.going.d, t.going.same ∙ rw e, t.going.sketched, t.held)
 
--- one line more: what was read of it, r, what was put then, and what was seen, v
+-- one line more
 module _ {m : Network} {text : List ℕ} {at first p : ℕ} {q : Sketch} {w : List ℕ} {f : List Float} (t : Taking m text at first p q w f) (s : Span)
-    (h : NextHere text at p s) (l : List ℕ) (el : l ≡ take s.end text)
-    {links : ℕ} (ek : links ≡ length m.links) (r : LineRead)
-    (er : (x : Network) → Words text x w → links ≡ length x.links → said_read l r ≡ said_of x q.acting q.otherwise (fields_at l s.at)) (fr : LineFits l r)
-    {base : ℕ} (eb : base ≡ length m.clauses) (w2 : List ℕ) (f2 : List Float) (put : Put text (base + q.clauses) r w f w2 f2)
-    (v : Result Sketch Reason) (see : (text : List ℕ) (d : Draft) → Sketched text d q → LineFits text r → SketchAs text (on_read (said_read text r) (λ x. good (with_said x d))) v) where
-  said : said_read l r ≡ said_of m q.acting q.otherwise (fields_at l s.at)
-  said =
+    (h : NextHere text at p s) (l : List ℕ) (el : l ≡ take s.end text) {links : ℕ} (ek : links ≡ length m.links) where
+  said_here : (o : Read Said) → ((x : Network) → Words text x w → links ≡ length x.links → o ≡ said_of x q.acting q.otherwise (fields_at l s.at)) → o ≡ said_of m q.acting q.otherwise (fields_at l s.at)
+  said_here o er =
       let cs : List Clause = m.clauses ++ fitting m t.going.d.clauses in
       er (with_clauses cs m) t.held.words ek ∙ said_same m cs q.acting q.otherwise (fields_at l s.at)
 
-  seen : SketchAs text (on_read (said_read text r) (λ x. good (with_said x t.going.d))) v
-  seen = see text t.going.d t.going.sketched (line-fits t.going s h l el r said fr)
-
-  placed : base + q.clauses ≡ length m.clauses + length t.going.d.clauses
-  placed = omega (arith, eb, t.going.sketched.long)
-
-  held_on : (o : Read Said) (d : Draft) → said_read text r ≡ o → on_read o (λ x. good (with_said x t.going.d)) ≡ good d → HoldsMore text m (fitting m d.clauses) w2 f2
-  held_on (good x) d eo e =
-      let z : with_said x t.going.d ≡ d = cc in
-      subst (λ (y : Draft). HoldsMore text m (fitting m y.clauses) w2 f2) z (put-more text m t.going.d w w2 f f2 t.held (base + q.clauses) placed r put x eo)
-  held_on (bad why) d eo e = absurd (let z : ◌≡◌ {A = ℕ} 0 1 = cc in omega arith)
-
-  pub taking-on : (next : Sketch) → v ≡ Ok next → Taking m text at first s.end next w2 f2
-  taking-on next e =
-      let k = seen-good t.going s h l el r said fr v seen next e in
-      record { going = going-with t.going s h l el r said fr k.0 next k.1 k.2; held = held_on (said_read text r) k.0 refl k.1 }
-
-  held-bad : (o : Read Said) (why : Reason) → said_read text r ≡ o → on_read o (λ x. good (with_said x t.going.d)) ≡ bad why → HoldsMore text m (fitting m t.going.d.clauses) w2 f2
-  held-bad (good x) why eo e = absurd (let z : ◌≡◌ {A = ℕ} 0 1 = cc in omega arith)
-  held-bad (bad y) why eo e = put-none text m t.going.d w w2 f f2 t.held (base + q.clauses) placed r put y eo
+  -- what was read of it is r, and that was put
+  pub taking-on : (r : Saying) → ((x : Network) → Words text x w → links ≡ length x.links → good (said_in l r) ≡ said_of x q.acting q.otherwise (fields_at l s.at)) → SayingFits l r
+      → {base : ℕ} → base ≡ length m.clauses → (w2 : List ℕ) (f2 : List Float) → Put text (base + q.clauses) r w f w2 f2
+      → (next : Sketch) → ((text : List ℕ) (d : Draft) → Sketched text d q → SayingFits text r → Sketched text (with_said (said_in text r) d) next) → Taking m text at first s.end next w2 f2
+  taking-on r er fr {base} eb w2 f2 put next see =
+      let e = said_here (good (said_in l r)) er in
+      record {
+        going = going-with t.going s h l el r e fr next (see text t.going.d t.going.sketched (line-fits t.going s h l el r e fr));
+        held = put-more text m t.going.d w w2 f f2 t.held (base + q.clauses) (omega (arith, eb, t.going.sketched.long)) r put;
+      }
 
   -- it is refused: the clauses before it are there, and are erased
-  pub taking-bad : (why : Reason) → v ≡ Err why → {w0 w3 : List ℕ} {f0 f3 : List Float}
-      → ((cs : List Clause) → length cs ≡ q.clauses → HoldsMore text m (fitting m cs) w2 f2 → (w3 ≡ w0) × (f3 ≡ f0))
+  pub taking-bad : (why : Reason) → ((x : Network) → Words text x w → links ≡ length x.links → bad why ≡ said_of x q.acting q.otherwise (fields_at l s.at))
+      → {w0 w3 : List ℕ} {f0 f3 : List Float} → ((cs : List Clause) → length cs ≡ q.clauses → HoldsMore text m (fitting m cs) w f → (w3 ≡ w0) × (f3 ≡ f0))
       → Taken text m (lines_of m no_draft (group_fields text at first)) (Err why) w0 f0 w3 f3
-  taking-bad why e erased =
-      let o = subst (λ (x : Result Sketch Reason). SketchAs text (on_read (said_read text r) (λ x. good (with_said x t.going.d))) x) e seen in
-      let back = erased t.going.d.clauses t.going.sketched.long (held-bad (said_read text r) why refl o) in
-      (going-bad t.going s h l el r said fr v seen why e, back.0, back.1)
+  taking-bad why er erased =
+      let back = erased t.going.d.clauses t.going.sketched.long t.held in
+      (going-bad t.going s h l el why (said_here (bad why) er), back.0, back.1)
 
 -- ---- the words of a clause's name, and of a rule
 pub name-row : (a b c d v v' : ℕ) (k : List ℕ) (o : Option Name) → v ≡ v' → k ≡ name_words o → a ∷ b ∷ c ∷ d ∷ v ∷ get_or k 0 0 ∷ get_or k 1 0 ∷ [] ≡ a ∷ b ∷ c ∷ d ∷ v' ∷ name_words o
@@ -217,22 +190,16 @@ module _ {text : List ℕ} {m : Network} {d : Draft} {q : Sketch} {s : Counts} {
         )
 
 -- ---- the group closed: its lines taken, and then its rule stored
-module _ {text : List ℕ} (at first : ℕ) {m : Network} {s : Counts} {w : List ℕ} {f : List Float} (h : Holds text m s w f) (v : Result Sketch Reason) (w1 : List ℕ) (f1 : List Float)
-    (ev : Taken text m (lines_of m no_draft (group_fields text at first)) v w f w1 f1) where
-  pub close-refused : (why : Reason) → v ≡ Err why → After text (group_step (group_fields text at first) m) (Err why) w f w1 f1
+module _ {text : List ℕ} (at first : ℕ) {m : Network} {s : Counts} {w : List ℕ} {f : List Float} (h : Holds text m s w f) {w1 : List ℕ} {f1 : List Float} where
+  pub close-refused : (why : Reason) → Taken text m (lines_of m no_draft (group_fields text at first)) (Err why) w f w1 f1 → After text (group_step (group_fields text at first) m) (Err why) w f w1 f1
   unfolding group_step
-  close-refused why e =
-      let k = subst (λ (x : Result Sketch Reason). Taken text m (lines_of m no_draft (group_fields text at first)) x w f w1 f1) e ev in
-      rw k.0 (refl, k.1, k.2)
+  close-refused why k = rw k.0 (refl, k.1, k.2)
 
-  module _ (q : Sketch) (e : v ≡ Ok q) where
-    pub read-good : (d : Draft) × (lines_of m no_draft (group_fields text at first) ≡ good d) × Sketched text d q × HoldsMore text m (fitting m d.clauses) w1 f1
-    read-good = subst (λ (x : Result Sketch Reason). Taken text m (lines_of m no_draft (group_fields text at first)) x w f w1 f1) e ev
-
-    pub close-written : ClausesPut text m read-good.0 q s w f w1 f1
-    close-written = record { was = h; sketched = read-good.2; more = read-good.3 }
+  module _ (q : Sketch) (k : Taken text m (lines_of m no_draft (group_fields text at first)) (Ok q) w f w1 f1) where
+    pub close-written : ClausesPut text m k.0 q s w f w1 f1
+    close-written = record { was = h; sketched = k.2; more = k.3 }
 
     pub close-stored : (r : Result Counts Reason) (w2 : List ℕ) (f2 : List Float) → ((d : Draft) → ClausesPut text m d q s w f w1 f1 → After text (judged d m) r w f w2 f2)
         → After text (group_step (group_fields text at first) m) r w f w2 f2
     unfolding group_step
-    close-stored r w2 f2 stored = rw read-good.1 (stored read-good.0 close-written)
+    close-stored r w2 f2 stored = rw k.1 (stored k.0 close-written)

@@ -13,11 +13,11 @@ use Rattle.scope.specs.Layout.{clauses_at, clauses_width, clause_numbers_at}
 use Rattle.scope.specs.Sections.{room_clauses}
 use Rattle.table_rows.specs.Holding.{Holds}
 use Rattle.rule_clauses.specs.Clauses.{condition_in}
-use Rattle.rule_lines.specs.declared.LineRead.{LineRead}
-use Rattle.rule_lines.specs.declared.LineRead.TheVariants as line
+use Rattle.rule_lines.specs.declared.Saying.{Saying}
+use Rattle.rule_lines.specs.declared.Saying.TheVariants as saying
 use Rattle.rule_lines.specs.Lines.{action_in}
 use Rattle.rule_groups.specs.declared.Sketch.{Sketch}
-use Rattle.rule_groups.specs.Sketches.{rank_in, Sketched}
+use Rattle.rule_groups.specs.Sketches.{Sketched}
 
 -- ---- the clauses
 -- a clause is put at the place n
@@ -28,12 +28,11 @@ PutClause n c w f w' f' = (w' ≡ splice w (clauses_at + n * clauses_width) (cla
 abbrev pub PutFitting : ℕ → Clause → List ℕ → List Float → List ℕ → List Float → Type 0
 PutFitting n c w f w' f' = (n < room_clauses → PutClause n c w f w' f') × (room_clauses ≤ n → (w' ≡ w) × (f' ≡ f))
 
-abbrev pub Put : List ℕ → ℕ → LineRead → List ℕ → List Float → List ℕ → List Float → Type 0
-Put text n (line.Named s) w f w' f' = (w' ≡ w) × (f' ≡ f)
-Put text n (line.Ranked k) w f w' f' = (w' ≡ w) × (f' ≡ f)
-Put text n (line.Condition c) w f w' f' = PutFitting n (condition (condition_in text c)) w f w' f'
-Put text n (line.Action a) w f w' f' = PutFitting n (action (action_in text a.action)) w f w' f'
-Put text n (line.Refused why) w f w' f' = (w' ≡ w) × (f' ≡ f)
+abbrev pub Put : List ℕ → ℕ → Saying → List ℕ → List Float → List ℕ → List Float → Type 0
+Put text n (saying.Named s) w f w' f' = (w' ≡ w) × (f' ≡ f)
+Put text n (saying.Ranked k) w f w' f' = (w' ≡ w) × (f' ≡ f)
+Put text n (saying.Condition c) w f w' f' = PutFitting n (condition (condition_in text c)) w f w' f'
+Put text n (saying.Action a) w f w' f' = PutFitting n (action (action_in text a.action)) w f w' f'
 
 -- the tables hold m with these clauses more
 abbrev pub HoldsMore : List ℕ → Network → List Clause → List ℕ → List Float → Type 0
@@ -50,7 +49,7 @@ Taken text m o (Err why) w f w' f' = (o ≡ bad why) × (w' ≡ w) × (f' ≡ f)
 
 -- ---- the rule
 abbrev pub rule_in : List ℕ → Span → Sketch → ℕ → Rule
-rule_in text id q first = record { id = name_in text id; priority = rank_in q.ranked q.priority; first = first; count = q.clauses }
+rule_in text id q first = record { id = name_in text id; priority = q.priority; first = first; count = q.clauses }
 
 -- the tables held m, and hold the clauses of the draft d besides; q is its sketch
 pub record ClausesPut (text : List ℕ) (m : Network) (d : Draft) (q : Sketch) (s : Counts) (w : List ℕ) (f : List Float) (w' : List ℕ) (f' : List Float) : Type 0 where

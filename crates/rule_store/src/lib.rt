@@ -15,13 +15,12 @@ ghost use Rattle.table_rows.specs.Holding.{Holds, Sound, After};
 ghost use Rattle.rule_clauses.specs.Clauses.{opt_in, condition_in};
 ghost use Rattle.read_headers.specs.Own.{group_fields};
 ghost use Rattle.rule_lines.specs.Lines.{action_in};
-ghost use Rattle.rule_groups.specs.Sketches.{rank_in};
 ghost use Rattle.rule_store.specs.Group.{rule_in, PutClause, Put, HoldsMore, fitting, Taken, ClausesPut};
 
 use leaf_fields::Span;
 use rule_groups::Sketch;
-use rule_lines::LineRead;
-use scope::{Action, Condition, Counts, Value};
+use rule_lines::Saying;
+use scope::{Action, Condition, Counts, Reason, Value};
 
 // ---- clauses
 
@@ -65,23 +64,15 @@ fn put_condition(text: &[u8], c: Condition, n: usize, words: &mut [u64], numbers
     requires { (n < room_clauses) × (length words.old ≡ record_words) × (length numbers.old ≡ room_numbers) }
     ensures { PutClause n (clause.condition (condition_in text.now c)) words.old numbers.old words.new numbers.new }
 {
-    let operator = c.operator;
-    let target = c.target;
-    let comparison = c.comparison;
-    let value = c.value;
-    let name = c.name;
-    let o = table_codes::operator_number(operator);
-    let t = table_codes::target_number(target);
-    let k = table_codes::comparison_number(comparison);
     put_clause(
         text,
         n,
         table_codes::CONDITION,
-        o,
-        t,
-        k,
-        value,
-        name,
+        table_codes::operator_number(c.operator),
+        table_codes::target_number(c.target),
+        table_codes::comparison_number(c.comparison),
+        c.value,
+        c.name,
         words,
         numbers,
     );
@@ -91,43 +82,32 @@ fn put_action(text: &[u8], a: Action, n: usize, words: &mut [u64], numbers: &mut
     requires { (n < room_clauses) × (length words.old ≡ record_words) × (length numbers.old ≡ room_numbers) }
     ensures { PutClause n (clause.action (action_in text.now a)) words.old numbers.old words.new numbers.new }
 {
-    let value = a.value;
-    let name = a.name;
-    let o = table_rows::flag_of(a.otherwise);
-    let link = a.link as u64;
     put_clause(
         text,
         n,
         table_codes::ACTION,
-        o,
-        link,
+        table_rows::flag_of(a.otherwise),
+        a.link as u64,
         0,
-        value,
-        Some(name),
+        a.value,
+        Some(a.name),
         words,
         numbers,
     );
 }
 
 // The clause of a line, where it has one, at the place `n`, where there is room.
-fn put_line(text: &[u8], read: LineRead, n: usize, words: &mut [u64], numbers: &mut [f64])
+fn put_line(text: &[u8], said: Saying, n: usize, words: &mut [u64], numbers: &mut [f64])
     requires { (length words.old ≡ record_words) × (length numbers.old ≡ room_numbers) }
-    ensures { Put text.now n read words.old numbers.old words.new numbers.new }
+    ensures { Put text.now n said words.old numbers.old words.new numbers.new }
 {
     if table_rows::CLAUSES_MOST <= n {
         return;
     }
-    match read {
-        LineRead::Named(_) => {}
-        LineRead::Ranked(_) => {}
-        LineRead::Condition(c) => {
-            put_condition(text, c, n, words, numbers);
-        }
-        LineRead::Action(a) => {
-            let action = a.action;
-            put_action(text, action, n, words, numbers);
-        }
-        LineRead::Refused(_) => {}
+    match said {
+        Saying::Named(_) | Saying::Ranked(_) => {}
+        Saying::Condition(c) => put_condition(text, c, n, words, numbers),
+        Saying::Action(a) => put_action(text, a.action, n, words, numbers),
     }
 }
 
@@ -136,10 +116,7 @@ fn clauses_end(base: usize, count: usize) -> usize
     requires { base ≤ room_clauses }
     ensures { result ≡ base + min (room_clauses - base) count }
 {
-    if count < table_rows::CLAUSES_MOST - base {
-        return base + count;
-    }
-    table_rows::CLAUSES_MOST
+    base + (table_rows::CLAUSES_MOST - base).min(count)
 }
 
 // The clauses of a group are erased: `count` of them, after `base` others.
@@ -174,11 +151,7 @@ fn take_lines(
     let links = s.links;
     let mut q = rule_groups::no_sketch();
     let mut p = first;
-    loop {
-        let own = read_headers::next_own(text, at, p);
-        let Some(line) = own else {
-            return Ok(q);
-        };
+    while let Some(line) = read_headers::next_own(text, at, p) {
         let read = rule_lines::read_line(
             read_headers::own_bytes(text, line),
             line.at,
@@ -188,11 +161,10 @@ fn take_lines(
             words,
             links,
         );
-        put_line(text, read, base + q.clauses, words, numbers);
-        let seen = rule_groups::see(q, read);
-        match seen {
-            Ok(next) => {
-                q = next;
+        match read {
+            Ok(said) => {
+                put_line(text, said, base + q.clauses, words, numbers);
+                q = rule_groups::see(q, said);
                 p = line.end;
             }
             Err(why) => {
@@ -201,18 +173,19 @@ fn take_lines(
             }
         }
     }
+    Ok(q)
 }
 
 // ---- the rule of a group
 
 // None is 0 and 0; a priority is 1 and itself.
-fn rank_words(ranked: bool, priority: u64) -> [u64; 2]
-    ensures { result ≡ count_words (rank_in ranked priority) }
+fn rank_words(priority: Option<u64>) -> [u64; 2]
+    ensures { result ≡ count_words priority }
 {
-    if ranked {
-        return [1, priority];
+    match priority {
+        Some(n) => [1, n],
+        None => [0, 0],
     }
-    [0, 0]
 }
 
 // The rule of a group, its clauses being there.
@@ -221,7 +194,7 @@ fn put_rule(text: &[u8], id: Span, q: Sketch, s: Counts, words: &mut [u64])
     ensures { words.new ≡ splice words.old (rules_at + s.rules * rules_width) (rule_words (rule_in text.now id q s.clauses)) }
 {
     let k = table_rows::id_words(text, id);
-    let r = rank_words(q.ranked, q.priority);
+    let r = rank_words(q.priority);
     let first = s.clauses as u64;
     let count = q.clauses as u64;
     table_rows::paste_words(
@@ -240,19 +213,25 @@ fn put_rule(text: &[u8], id: Span, q: Sketch, s: Counts, words: &mut [u64])
 }
 
 // The rule of a group whose clauses are there; where the group is refused, they are erased.
-fn store_group(text: &[u8], q: Sketch, s: Counts, words: &mut [u64], numbers: &mut [f64]) -> Result<Counts, Reason>
+fn store_group(
+    text: &[u8],
+    q: Sketch,
+    s: Counts,
+    words: &mut [u64],
+    numbers: &mut [f64],
+) -> Result<Counts, Reason>
     requires { (m : Network) × (d : Draft) × (w : List ℕ) × (f : List Float) × ClausesPut text.now m d q s w f words.old numbers.old }
     ensures { (m : Network) (d : Draft) (w : List ℕ) (f : List Float) → ClausesPut text.now m d q s w f words.old numbers.old
         → After text.now (judged d m) result w f words.new numbers.new }
 {
-    let answer = rule_groups::judge_group(text, q, words, s);
-    match answer {
+    match rule_groups::judge_group(text, q, words, s) {
         Ok(id) => {
             put_rule(text, id, q, s, words);
-            let mut t = s;
-            t.rules = s.rules + 1;
-            t.clauses = s.clauses + q.clauses;
-            Ok(t)
+            Ok(Counts {
+                rules: s.rules + 1,
+                clauses: s.clauses + q.clauses,
+                ..s
+            })
         }
         Err(why) => {
             erase_clauses(s.clauses, q.clauses, words, numbers);
@@ -274,9 +253,6 @@ pub fn close_group(
     ensures { (m : Network) → Holds text.now m s words.old numbers.old
         → After text.now (group_step (group_fields text.now at first) m) result words.old numbers.old words.new numbers.new }
 {
-    let read = take_lines(text, first, at, s, words, numbers);
-    match read {
-        Ok(q) => store_group(text, q, s, words, numbers),
-        Err(why) => Err(why),
-    }
+    let q = take_lines(text, first, at, s, words, numbers)?;
+    store_group(text, q, s, words, numbers)
 }

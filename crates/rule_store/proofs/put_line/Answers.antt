@@ -1,18 +1,11 @@
 -- `rule_store::put_line` meets its contract. Assumes nothing.
-use mathlib.Core.Path.{refl}
 use native.Mathlib.Omega.{arith}
 use Rattle.rule_store.proofs.GroupLaws.{put_full}
 use Rattle.rule_store.proofs.put_line.Goals as goal
 
 pub returns-then-n-ge-CLAUSES_MOST : goal.returns-then-n-ge-CLAUSES_MOST
 returns-then-n-ge-CLAUSES_MOST c =
-    put_full c.args.text.now c.args.n c.args.read c.args.words.now c.args.numbers.now c.if-n-ge-CLAUSES_MOST.true
-
-pub returns-in-Named : goal.returns-in-Named
-returns-in-Named c = rw c.in-Named.is (refl, refl)
-
-pub returns-in-Ranked : goal.returns-in-Ranked
-returns-in-Ranked c = rw c.in-Ranked.is (refl, refl)
+    put_full c.args.text.now c.args.n c.args.said c.args.words.now c.args.numbers.now c.if-n-ge-CLAUSES_MOST.true
 
 pub returns-in-Condition : goal.returns-in-Condition
 returns-in-Condition c =
@@ -21,6 +14,3 @@ returns-in-Condition c =
 pub returns-in-Action : goal.returns-in-Action
 returns-in-Action c =
     rw c.in-Action.is ((λ k. c.put_action.ensures), λ k. absurd (omega (arith, c.if-n-ge-CLAUSES_MOST.false)))
-
-pub returns-in-Err : goal.returns-in-Err
-returns-in-Err c = rw c.in-Err.is (refl, refl)

@@ -1,5 +1,4 @@
 -- `rule_store::take_lines` meets its contract. Assumes nothing.
-use mathlib.Core.Path.{sym, ◌∙◌}
 use native.Mathlib.Omega.{arith}
 use Rattle.table_rows.proofs.HoldLaws.{bound-clauses}
 use Rattle.table_rows.proofs.AfterLaws.{holds-words, holds-numbers}
@@ -11,61 +10,44 @@ pub loop-line-init : goal.loop-line-init
 loop-line-init c =
     λ m st. taking-start c.args.at c.args.first _ st.holds (c.no_sketch-q.ensures c.args.text.now)
 
-pub shape_of-words-in_default : goal.shape_of-words-in_default
-shape_of-words-in_default c =
-    omega (arith, holds-words (c.loop-line.invariant c.requires.m (started c.requires.holds)).held, holds-words c.requires.holds)
-
-pub shape_of-numbers-in_default : goal.shape_of-numbers-in_default
-shape_of-numbers-in_default c =
-    omega (arith, holds-numbers (c.loop-line.invariant c.requires.m (started c.requires.holds)).held, holds-numbers c.requires.holds)
-
-pub returns-in_default : goal.returns-in_default
-returns-in_default c =
-    λ m h. taking-end (c.loop-line.invariant m (started h)) (c.next_own-own.ensures.nothing c.in_default.is) c.args.words.now c.args.numbers.now
-
 pub read_line-read-requires : goal.read_line-read-requires
 read_line-read-requires c =
     taking-words (c.loop-line.invariant c.requires.m (started c.requires.holds)) (started c.requires.holds).links-are
 
 pub overflow_add-base : goal.overflow_add-base
 overflow_add-base c =
-    let t = c.loop-line.invariant c.requires.m (started c.requires.holds) in let h = (c.next_own-own.ensures.line _ c.in-Some.is) in
+    let t = c.loop-line.invariant c.requires.m (started c.requires.holds) in let h = (c.next_own.ensures.line _ c.in-Some.is) in
     omega (arith, t.going.sketched.long, t.going.below, h.after, h.some, h.inside, bound-clauses c.requires.holds)
 
 pub put_line-requires : goal.put_line-requires
 put_line-requires c =
     (holds-words (c.loop-line.invariant c.requires.m (started c.requires.holds)).held, holds-numbers (c.loop-line.invariant c.requires.m (started c.requires.holds)).held)
 
-pub see-seen-requires : goal.see-seen-requires
-see-seen-requires c =
-    let t = c.loop-line.invariant c.requires.m (started c.requires.holds) in let h = (c.next_own-own.ensures.line _ c.in-Some.is) in
+pub see-q-requires : goal.see-q-requires
+see-q-requires c =
+    let t = c.loop-line.invariant c.requires.m (started c.requires.holds) in let h = (c.next_own.ensures.line _ c.in-Some.is) in
     omega (arith, t.going.sketched.long, t.going.below, h.after, h.some, h.inside)
 
 pub loop-line-smaller : goal.loop-line-smaller
 loop-line-smaller c =
-    falls (c.next_own-own.ensures.line _ c.in-Some.is)
+    falls (c.next_own.ensures.line _ c.in-Some.is)
 
 pub loop-line-preserved : goal.loop-line-preserved
 loop-line-preserved c =
-    λ m st. taking-on (c.loop-line.invariant m st) _ (c.next_own-own.ensures.line _ c.in-Some.is) c.own_bytes.result.now
-    c.own_bytes.ensures st.links-are c.read_line-read.result c.read_line-read.ensures.result_value c.read_line-read.ensures.line_fits st.base-is _ _
-    c.put_line.ensures c.see-seen.result c.see-seen.ensures _ c.in-Ok.is
+    λ m st. taking-on (c.loop-line.invariant m st) _ (c.next_own.ensures.line _ c.in-Some.is) c.own_bytes.result.now
+    c.own_bytes.ensures st.links-are c.in-Ok.said c.in-Ok.ensures.result_value c.in-Ok.ensures.line_fits st.base-is _ _
+    c.put_line.ensures c.see-q.result c.see-q.ensures
 
 pub erase_clauses-requires : goal.erase_clauses-requires
 erase_clauses-requires c =
     let t = c.loop-line.invariant c.requires.m (started c.requires.holds) in
-    (bound-clauses c.requires.holds, c.put_line.auto.words ∙ holds-words t.held, c.put_line.auto.numbers ∙ holds-numbers t.held)
-
-pub shape_of-words-in-Err : goal.shape_of-words-in-Err
-shape_of-words-in-Err c =
-    c.erase_clauses.auto.words ∙ c.put_line.auto.words ∙ holds-words (c.loop-line.invariant c.requires.m (started c.requires.holds)).held ∙ sym (holds-words c.requires.holds)
-
-pub shape_of-numbers-in-Err : goal.shape_of-numbers-in-Err
-shape_of-numbers-in-Err c =
-    c.erase_clauses.auto.numbers ∙ c.put_line.auto.numbers ∙ holds-numbers (c.loop-line.invariant c.requires.m (started c.requires.holds)).held ∙ sym (holds-numbers c.requires.holds)
+    (bound-clauses c.requires.holds, holds-words t.held, holds-numbers t.held)
 
 pub returns-in-Err : goal.returns-in-Err
 returns-in-Err c =
-    λ m h. let st = started h in taking-bad (c.loop-line.invariant m st) _ (c.next_own-own.ensures.line _ c.in-Some.is)
-    c.own_bytes.result.now c.own_bytes.ensures st.links-are c.read_line-read.result c.read_line-read.ensures.result_value c.read_line-read.ensures.line_fits
-    st.base-is _ _ c.put_line.ensures c.see-seen.result c.see-seen.ensures _ c.in-Err.is (λ cs. c.erase_clauses.ensures c.args.text.now m _ _ _ cs h st.base-is)
+    λ m h. let st = started h in taking-bad (c.loop-line.invariant m st) _ (c.next_own.ensures.line _ c.in-Some.is)
+    c.own_bytes.result.now c.own_bytes.ensures st.links-are _ c.in-Err.ensures.result_value (λ cs. c.erase_clauses.ensures c.args.text.now m _ _ _ cs h st.base-is)
+
+pub returns : goal.returns
+returns c =
+    λ m h. taking-end (c.loop-line.invariant m (started h)) (c.next_own.ensures.nothing c.in_default.is) c.args.words.now c.args.numbers.now
