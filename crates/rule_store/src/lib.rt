@@ -21,6 +21,7 @@ use leaf_fields::Span;
 use rule_groups::Sketch;
 use rule_lines::Saying;
 use scope::{Action, Condition, Counts, Reason, Value};
+use table_codes::Coded;
 
 // ---- clauses
 
@@ -42,9 +43,8 @@ fn put_clause(
         × (numbers.new ≡ splice numbers.old (clause_numbers_at + n) (value_number value ∷ [])) }
 {
     let k = table_rows::name_words(text, name);
-    let v = table_codes::value_word(value);
-    let x = table_codes::value_number(value);
-    table_rows::paste_words(
+    let (status, number) = value.code();
+    table_rows::paste(
         words,
         table_rows::CLAUSES_AT + n * table_rows::CLAUSES_WIDTH,
         &[
@@ -52,12 +52,12 @@ fn put_clause(
             one,
             two,
             three,
-            v,
+            status,
             k[table_rows::NAME_PLACE],
             k[table_rows::NAME_LENGTH],
         ],
     );
-    table_rows::paste_numbers(numbers, table_rows::CLAUSE_NUMBERS_AT + n, &[x]);
+    table_rows::paste(numbers, table_rows::CLAUSE_NUMBERS_AT + n, &[number]);
 }
 
 fn put_condition(text: &[u8], c: Condition, n: usize, words: &mut [u64], numbers: &mut [f64])
@@ -68,9 +68,9 @@ fn put_condition(text: &[u8], c: Condition, n: usize, words: &mut [u64], numbers
         text,
         n,
         table_codes::CONDITION,
-        table_codes::operator_number(c.operator),
-        table_codes::target_number(c.target),
-        table_codes::comparison_number(c.comparison),
+        c.operator.code(),
+        c.target.code(),
+        c.comparison.code(),
         c.value,
         c.name,
         words,
@@ -128,10 +128,10 @@ fn erase_clauses(base: usize, count: usize, words: &mut [u64], numbers: &mut [f6
     let end = clauses_end(base, count);
     let from = table_rows::CLAUSES_AT + base * table_rows::CLAUSES_WIDTH;
     let to = table_rows::CLAUSES_AT + end * table_rows::CLAUSES_WIDTH;
-    table_rows::clear_words(&mut words[from..to]);
+    words[from..to].fill(0);
     let low = table_rows::CLAUSE_NUMBERS_AT + base;
     let high = table_rows::CLAUSE_NUMBERS_AT + end;
-    table_rows::clear_numbers(&mut numbers[low..high]);
+    numbers[low..high].fill(0.0);
 }
 
 // The lines of the group whose first line stands at `first`, in a text read up to `at`. Their clauses are put after those that are there; where a line is refused, none is left.
@@ -197,7 +197,7 @@ fn put_rule(text: &[u8], id: Span, q: Sketch, s: Counts, words: &mut [u64])
     let r = rank_words(q.priority);
     let first = s.clauses as u64;
     let count = q.clauses as u64;
-    table_rows::paste_words(
+    table_rows::paste(
         words,
         table_rows::RULES_AT + s.rules * table_rows::RULES_WIDTH,
         &[

@@ -6,6 +6,6 @@ pub returns : goal.returns
 returns c =
     λ text m s w f cs h eb ec more. (
       words_back h cs more c.args.base c.args.count c.clauses_end-end.result eb ec c.clauses_end-end.ensures _
-          c.clear_words.ensures,
-      numbers-back h cs more c.args.base c.args.count c.clauses_end-end.result eb ec c.clauses_end-end.ensures _ c.clear_numbers.ensures,
+          c.fill.ensures,
+      numbers-back h cs more c.args.base c.args.count c.clauses_end-end.result eb ec c.clauses_end-end.ensures _ c.fill-2.ensures,
     )

@@ -10,6 +10,6 @@ use Rattle.rule_store.proofs.put_rule.Goals as goal
 
 pub returns : goal.returns
 returns c =
-    c.paste_words.ensures ∙ ap (λ (l : List ℕ). splice c.args.words.now (rules_at + c.args.s.rules * rules_width) l)
+    c.paste.ensures ∙ ap (λ (l : List ℕ). splice c.args.words.now (rules_at + c.args.s.rules * rules_width) l)
     (rule-row c.id_words-k.result c.rank_words-r.result c.args.s.clauses c.args.q.clauses (name_in c.args.text.now c.args.id)
     c.args.q.priority c.id_words-k.ensures c.rank_words-r.ensures)
