@@ -23,7 +23,7 @@ use Rattle.table_rows.specs.Holding.{Sits, Holds, After}
 use Rattle.table_rows.proofs.HoldLaws.{add-link, count-links}
 
 -- ---- the words of a link, one by one
-pub name-pair : (n : Option Name) → get_or (name_words n) 0 0 ∷ get_or (name_words n) 1 0 ∷ [] ≡ name_words n
+name-pair : (n : Option Name) → get_or (name_words n) 0 0 ∷ get_or (name_words n) 1 0 ∷ [] ≡ name_words n
 name-pair (Some n) = refl
 name-pair None = refl
 

@@ -5,17 +5,18 @@ use Rattle.scope.specs.declared.LinkKind.{LinkKind}
 use Rattle.scope.specs.declared.Reason.{Reason}
 use Rattle.scope.specs.Records.{Link}
 use Rattle.scope.specs.Values.{Read, good, bad}
-use Rattle.scope.specs.Links.{Ends, new_link}
+use Rattle.scope.specs.Links as scope
 use Rattle.parse_pipes.specs.Lines.{kind_in}
+use Rattle.store_links.specs.declared.Ends.{Ends}
 
 -- ---- the places of the two nodes
-abbrev pub ends_at : ℕ → ℕ → Ends
-ends_at from to = record { start = from; end = to }
+abbrev pub ends_in : Ends → scope.Ends
+ends_in e = record { start = e.start; end = e.end }
 
-abbrev pub EndsAs : Read Ends → Result (ℕ × ℕ) Reason → Type 0
-EndsAs o (Ok (from, to)) = o ≡ good (ends_at from to)
+abbrev pub EndsAs : Read scope.Ends → Result Ends Reason → Type 0
+EndsAs o (Ok e) = o ≡ good (ends_in e)
 EndsAs o (Err why) = o ≡ bad why
 
 -- ---- the link
-abbrev pub link_in : List ℕ → Name → ℕ → ℕ → LinkKind → Link
-link_in text id from to k = new_link id (ends_at from to) (kind_in text k)
+abbrev pub link_in : List ℕ → Name → Ends → LinkKind → Link
+link_in text id ends k = scope.new_link id (ends_in ends) (kind_in text k)

@@ -12,7 +12,7 @@ ghost use Rattle.scope.specs.Layout.{link_numbers_at, link_numbers_width, record
 ghost use Rattle.table_rows.specs.Adding.{link_added};
 ghost use Rattle.table_rows.specs.Holding.{Words, Holds, Sound, After};
 ghost use Rattle.parse_pipes.specs.Lines.{kind_in, line_in};
-ghost use Rattle.store_links.specs.Storing.{link_in, ends_at, EndsAs};
+ghost use Rattle.store_links.specs.Storing.{link_in, ends_in, EndsAs};
 
 use leaf_fields::Span;
 use parse_pipes::{LinkLine, LinkNames};
@@ -20,20 +20,21 @@ use scope::{Counts, Kind, LinkKind, Reason};
 use table_codes::Coded;
 
 // The places of the two nodes.
+#[derive(Clone, Copy)]
+struct Ends {
+    start: usize,
+    end: usize,
+}
+
 #[tactic(auto, unfolding(scope::specs::Links::ends_of))]
-fn find_ends(
-    text: &[u8],
-    names: LinkNames,
-    nodes: usize,
-    words: &[u64],
-) -> Result<(usize, usize), Reason>
+fn find_ends(text: &[u8], names: LinkNames, nodes: usize, words: &[u64]) -> Result<Ends, Reason>
     requires { (m : Network) × Words text.now m words.now × (nodes ≡ length m.nodes) }
     ensures { (m : Network) → Words text.now m words.now → nodes ≡ length m.nodes
         → EndsAs (ends_of (name_in text.now names.start) (name_in text.now names.end) m) result }
 {
-    let from = table_find::node_named(text, words, nodes, names.start).ok_or(Reason::NotFound)?;
-    let to = table_find::node_named(text, words, nodes, names.end).ok_or(Reason::NotFound)?;
-    Ok((from, to))
+    let start = table_find::node_named(text, words, nodes, names.start).ok_or(Reason::NotFound)?;
+    let end = table_find::node_named(text, words, nodes, names.end).ok_or(Reason::NotFound)?;
+    Ok(Ends { start, end })
 }
 
 // The kind; a pipe's status or a valve's type; a pump's or a valve's curve.
@@ -41,12 +42,7 @@ fn kind_words(text: &[u8], kind: LinkKind) -> [u64; 4]
     ensures { result ≡ link_kind_words (kind_in text.now kind) }
 {
     match kind {
-        LinkKind::Pipe(p) => [
-            table_codes::PIPE,
-            p.status.code(),
-            0,
-            0,
-        ],
+        LinkKind::Pipe(p) => [table_codes::PIPE, p.status.code(), 0, 0],
         LinkKind::Pump(p) => {
             let c = table_rows::name_words(text, p.head);
             [
@@ -85,14 +81,13 @@ fn put_link(
     numbers: &mut [f64],
     n: usize,
     who: [u64; table_rows::ID_WIDTH],
-    from: usize,
-    to: usize,
+    ends: Ends,
     kind: LinkKind,
 )
     requires { (n < room_links) × (length words.old ≡ record_words) × (length numbers.old ≡ room_numbers) }
     ensures { (id : Name) → who ≡ id_words id
-        → (words.new ≡ link_added words.old n (link_in text.now id from to kind))
-        × (numbers.new ≡ splice numbers.old (link_numbers_at + n * link_numbers_width) (link_numbers (link_in text.now id from to kind))) }
+        → (words.new ≡ link_added words.old n (link_in text.now id ends kind))
+        × (numbers.new ≡ splice numbers.old (link_numbers_at + n * link_numbers_width) (link_numbers (link_in text.now id ends kind))) }
 {
     let k = kind_words(text, kind);
     let x = kind_numbers(kind);
@@ -103,8 +98,8 @@ fn put_link(
             who[table_rows::ID_PLACE],
             who[table_rows::ID_LENGTH],
             who[table_rows::ID_KEY],
-            from as u64,
-            to as u64,
+            ends.start as u64,
+            ends.end as u64,
             k[0],
             k[1],
             k[2],
@@ -124,8 +119,7 @@ fn put_link(
 fn add_link(
     text: &[u8],
     id: Span,
-    from: usize,
-    to: usize,
+    ends: Ends,
     kind: LinkKind,
     s: Counts,
     words: &mut [u64],
@@ -133,7 +127,7 @@ fn add_link(
 ) -> Result<Counts, Reason>
     requires { Sound text.now s words.old numbers.old × Fits text.now id }
     ensures { (m : Network) → Holds text.now m s words.old numbers.old
-        → After text.now (add_link (name_in text.now id) (ends_at from to) (kind_in text.now kind) m) result words.old
+        → After text.now (add_link (name_in text.now id) (ends_in ends) (kind_in text.now kind) m) result words.old
         numbers.old words.new numbers.new }
 {
     let n = s.links;
@@ -150,7 +144,7 @@ fn add_link(
         return Err(Reason::Used);
     }
     if n < table_rows::LINKS_MOST {
-        put_link(text, words, numbers, n, who, from, to, kind);
+        put_link(text, words, numbers, n, who, ends, kind);
         return Ok(Counts { links: n + 1, ..s });
     }
     Err(Reason::NoRoom)
@@ -168,8 +162,8 @@ fn store_link(
     ensures { (m : Network) → Holds text.now m s words.old numbers.old
         → After text.now (store_link (line_in text.now line) m) result words.old numbers.old words.new numbers.new }
 {
-    let (from, to) = find_ends(text, line.names, s.nodes, words)?;
-    add_link(text, line.names.id, from, to, line.kind, s, words, numbers)
+    let ends = find_ends(text, line.names, s.nodes, words)?;
+    add_link(text, line.names.id, ends, line.kind, s, words, numbers)
 }
 
 // The line of PIPES from `at` to `end`.
@@ -220,13 +214,12 @@ pub fn pump_line(
         → After text.now (pump_step (fields_at (take end text.now) at) m) result words.old numbers.old words.new numbers.new }
 {
     let names = parse_pipes::read_names(&text[..end], at)?;
-    let (from, to) = find_ends(text, names, s.nodes, words)?;
+    let ends = find_ends(text, names, s.nodes, words)?;
     let pump = parse_pumps::read_pairs(&text[..end], names.end.end)?;
     add_link(
         text,
         names.id,
-        from,
-        to,
+        ends,
         LinkKind::Pump(pump),
         s,
         words,

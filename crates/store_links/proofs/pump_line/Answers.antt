@@ -11,21 +11,21 @@ returns-in_err-names c =
     let a = c.args in
     λ m h. line-refused _ _ _ _ (few-pump (fields_at (take a.end a.text.now) a.at) m c.in_err-names.ensures) c.from_residual.ensures
 
-pub returns-in_err-from : goal.returns-in_err-from
+pub returns-in_err-ends : goal.returns-in_err-ends
 unfolding pump_step
-returns-in_err-from c =
+returns-in_err-ends c =
     let names = names-text c.args.text.now c.args.end _ c.in_ok-names.ensures in
-    λ m h. line-refused _ _ _ _ (rw (names, c.in_err-from.ensures m h.words (count-nodes h))) c.from_residual-in_err-from.ensures
+    λ m h. line-refused _ _ _ _ (rw (names, c.in_err-ends.ensures m h.words (count-nodes h))) c.from_residual-in_err-ends.ensures
 
 pub returns-in_err-pump : goal.returns-in_err-pump
 unfolding pump_step
 returns-in_err-pump c =
     let names = names-text c.args.text.now c.args.end _ c.in_ok-names.ensures in
-    λ m h. line-refused _ _ _ _ (rw (names, c.in_ok-from.ensures m h.words (count-nodes h), c.in_err-pump.ensures)) c.from_residual-in_err-pump.ensures
+    λ m h. line-refused _ _ _ _ (rw (names, c.in_ok-ends.ensures m h.words (count-nodes h), c.in_err-pump.ensures)) c.from_residual-in_err-pump.ensures
 
 pub returns : goal.returns
 unfolding pump_step
 returns c =
     let names = names-text c.args.text.now c.args.end _ c.in_ok-names.ensures in
     let pump = pump-text c.args.text.now c.args.end _ c.in_ok-pump.ensures in
-    λ m h. rw (names, c.in_ok-from.ensures m h.words (count-nodes h), pump) (c.add_link.ensures m h)
+    λ m h. rw (names, c.in_ok-ends.ensures m h.words (count-nodes h), pump) (c.add_link.ensures m h)

@@ -16,7 +16,7 @@ pub returns : goal.returns
 returns c =
     λ id e.
     let a = c.args in
-    let link = link_in a.text.now id a.from a.to a.kind in (
+    let link = link_in a.text.now id a.ends a.kind in (
       mark-alike (a.n + 1) c.mark.ensures
           (c.paste.ensures ∙ ap (λ (r : List ℕ). splice a.words.now (links_at + a.n * links_width) r) (link_row link e c.kind_words-k.ensures))
           (ap (λ (k : ℕ). link_slots_at + k) (c.slot_of-slot.ensures ∙ ap (λ (l : List ℕ). slot_of (get_or l id_key 0)) e)),
