@@ -58,6 +58,7 @@ fn show_part<W: Write>(out: &mut W, all: &[u8], from: Option<usize>, end: usize)
 fn replay<W: Write>(out: &mut W, all: &[u8]) -> io::Result<()> {
     let mut from = None;
     let mut at = 0;
+    // A cursor, as the pieces of std's `split_inclusive` do not say where they stand in the whole.
     while at < all.len() {
         let end = leaf_scans::line_end(all, at);
         if all[at] == b'#' {

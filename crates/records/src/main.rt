@@ -1,53 +1,28 @@
 // Reads a text strictly or as a survey, and prints every record that is stored: docs/DUMP.md has the form.
 #![tactic(auto)]
 
-use program_input::Input;
 use std::io;
 use std::io::{BufWriter, Write};
-use write_text::{count, newline, write};
+use stored_counts::Stored;
 
-fn show_answer<W: Write>(out: &mut W, answer: u8, line: usize) -> io::Result<()> {
-    write(out, b"answer")?;
-    count(out, answer as u64)?;
-    write(out, b" line")?;
-    count(out, line as u64)?;
-    newline(out)
+fn show_network<W: Write>(out: &mut W, stored: Stored) -> io::Result<()> {
+    write_nodes::show_nodes(out, stored)?;
+    write_links::show_links(out, stored)?;
+    write_series::show_curves(out, stored)?;
+    write_series::show_patterns(out, stored)?;
+    write_series::show_times(out, stored)?;
+    write_rules::show_rules(out, stored)
 }
 
-fn show_network<W: Write>(
-    out: &mut W,
-    text: &[u8],
-    words: &[u64],
-    numbers: &[f64],
-) -> io::Result<()> {
-    write_nodes::show_nodes(out, text, words, numbers)?;
-    write_links::show_links(out, text, words, numbers)?;
-    write_series::show_curves(out, text, words, numbers)?;
-    write_series::show_patterns(out, text, words, numbers)?;
-    write_series::show_times(out, words)?;
-    write_rules::show_rules(out, text, words, numbers)
-}
-
-fn show_line<W: Write>(out: &mut W, line: usize, class: u8, reason: u8) -> io::Result<()> {
-    write(out, b"line")?;
-    count(out, line as u64)?;
-    write(out, b" class")?;
-    count(out, class as u64)?;
-    write(out, b" reason")?;
-    count(out, reason as u64)?;
-    newline(out)
-}
-
+// The class and the reason of each of the lines.
 fn show_lines<W: Write>(
     out: &mut W,
     classes: &[u8; table_rows::LINES_ROOM],
     reasons: &[u8; table_rows::LINES_ROOM],
     lines: usize,
 ) -> io::Result<()> {
-    for i in 0..lines {
-        if i < table_rows::LINES_ROOM {
-            show_line(out, i + 1, classes[i], reasons[i])?;
-        }
+    for (i, (class, reason)) in classes.iter().zip(reasons).take(lines).enumerate() {
+        writeln!(out, "line {} class {class} reason {reason}", i + 1)?;
     }
     Ok(())
 }
@@ -56,8 +31,13 @@ fn show_strict<W: Write>(out: &mut W, text: &[u8]) -> io::Result<()> {
     let mut words = [0u64; table_rows::WORDS_ROOM];
     let mut numbers = [0.0f64; table_rows::NUMBERS_ROOM];
     let a = read_strict::read_strict(text, &mut words, &mut numbers);
-    show_answer(out, a.number, a.line)?;
-    show_network(out, text, &words, &numbers)
+    let stored = Stored {
+        text,
+        words: &words,
+        numbers: &numbers,
+    };
+    writeln!(out, "answer {} line {}", a.number, a.line)?;
+    show_network(out, stored)
 }
 
 fn show_survey<W: Write>(out: &mut W, text: &[u8]) -> io::Result<()> {
@@ -66,54 +46,36 @@ fn show_survey<W: Write>(out: &mut W, text: &[u8]) -> io::Result<()> {
     let mut classes = [0u8; table_rows::LINES_ROOM];
     let mut reasons = [0u8; table_rows::LINES_ROOM];
     let s = read_survey::read_survey(text, &mut words, &mut numbers, &mut classes, &mut reasons);
-    show_answer(out, s.number, 0)?;
-    show_network(out, text, &words, &numbers)?;
-    write_series::show_sets(out, &words)?;
+    let stored = Stored {
+        text,
+        words: &words,
+        numbers: &numbers,
+    };
+    writeln!(out, "answer {} line 0", s.number)?;
+    show_network(out, stored)?;
+    write_series::show_sets(out, stored)?;
     show_lines(out, &classes, &reasons, s.lines)
 }
 
 // ---- the command line
 
-fn show_help<W: Write>(out: &mut W) -> io::Result<()> {
-    write(
-        out,
-        b"records strict [FILE]   read up to the first line or rule that is refused\n",
-    )?;
-    write(
-        out,
-        b"records survey [FILE]   read every line, and give each its class and reason\n",
-    )?;
-    write(
-        out,
-        b"Prints the records that are stored. Without FILE it reads standard input.\n",
-    )
-}
-
-fn show<W: Write>(out: &mut W, strict: bool, text: &[u8]) -> io::Result<()> {
-    if strict {
-        show_strict(out, text)
-    } else {
-        show_survey(out, text)
-    }
-}
-
-fn run<W: Write>(rt: &HostRuntime, out: &mut W, strict: bool) -> io::Result<()> {
-    let mut buffer = [0u8; program_input::TEXT_ROOM];
-    let read = program_input::read_argument(rt, b"records", 2, &mut buffer)?;
-    if let Input::Read(n) = read {
-        show(out, strict, leaf_letters::cut(&buffer, 0, n))?;
-    }
-    Ok(())
-}
+const HELP: &str = "\
+records strict [FILE]   read up to the first line or rule that is refused
+records survey [FILE]   read every line, and give each its class and reason
+Prints the records that are stored. Without FILE it reads standard input.
+";
 
 fn answer<W: Write>(rt: &HostRuntime, out: &mut W) -> io::Result<()> {
-    if program_input::argument_is(rt, 1, b"strict") {
-        return run(rt, out, true);
+    let strict = program_input::argument_is(rt, 1, "strict");
+    if !strict && !program_input::argument_is(rt, 1, "survey") {
+        return write!(out, "{HELP}");
     }
-    if program_input::argument_is(rt, 1, b"survey") {
-        return run(rt, out, false);
+    let mut buffer = [0u8; program_input::TEXT_ROOM];
+    match program_input::read_argument(rt, "records", 2, &mut buffer)? {
+        Some(n) if strict => show_strict(out, &buffer[..n]),
+        Some(n) => show_survey(out, &buffer[..n]),
+        None => Ok(()),
     }
-    show_help(out)
 }
 
 fn main(rt: HostRuntime) -> io::Result<()> {
