@@ -7,7 +7,7 @@ ghost use Rattle.scope.specs.Records.{Network};
 ghost use Rattle.table_rows.specs.Holding.{Holds, Sound, After};
 ghost use Rattle.read_sections.specs.Storing.{line_step};
 
-use scope::{Counts, Section};
+use scope::{Counts, Reason, Section};
 
 // Hands a line to the reader of its section.
 pub fn store_line(
