@@ -25,11 +25,8 @@ fn put_rest(l: &[u8], at: usize, k: usize, pattern: usize, words: &mut [u64], nu
 {
     let mut i = k;
     let mut p = at;
-    loop {
-        let t = parse_fields::take_number(l, p);
-        let Ok((x, next)) = t else {
-            return;
-        };
+    // No `for`: where the next number stands is known once this one is read.
+    while let Ok((x, next)) = parse_fields::take_number(l, p) {
         words[table_rows::MULTIPLIERS_AT + i] = pattern as u64;
         numbers[table_rows::MULTIPLIER_NUMBERS_AT + i] = x;
         i += 1;
@@ -43,12 +40,9 @@ fn put_numbers(xs: &[f64], k: usize, pattern: usize, words: &mut [u64], numbers:
     ensures { (words.new ≡ splice words.old (multipliers_at + k) (replicate (length xs.now) pattern))
         × (numbers.new ≡ splice numbers.old (multiplier_numbers_at + k) xs.now) }
 {
-    let mut i = 0;
-    while i < xs.len() {
-        words[table_rows::MULTIPLIERS_AT + k + i] = pattern as u64;
-        numbers[table_rows::MULTIPLIER_NUMBERS_AT + k + i] = xs[i];
-        i += 1;
-    }
+    let at = table_rows::MULTIPLIERS_AT + k;
+    words[at..at + xs.len()].fill(pattern as u64);
+    table_rows::paste(numbers, table_rows::MULTIPLIER_NUMBERS_AT + k, xs);
 }
 
 // The multipliers of a line, from multiplier number `k` on. Those in `first` are not read again.
@@ -67,9 +61,8 @@ fn put_multipliers(
         → (words.new ≡ splice words.old (multipliers_at + k) (replicate (length xs) pattern))
         × (numbers.new ≡ splice numbers.old (multiplier_numbers_at + k) xs) }
 {
-    let count = p.count;
-    if count <= first.len() {
-        put_numbers(&first[..count], k, pattern, words, numbers);
+    if p.count <= first.len() {
+        put_numbers(&first[..p.count], k, pattern, words, numbers);
         return;
     }
     put_numbers(first, k, pattern, words, numbers);
@@ -90,34 +83,36 @@ fn store_pattern(
         → Multipliers line.now first.now p.count p.rest xs
         → After text.now (add_pattern (name_in text.now p.id) xs m) result words.old numbers.old words.new numbers.new }
 {
-    let id = p.id;
-    let count = p.count;
     let n = s.patterns;
     let k = s.multipliers;
-    let found = table_find::find_at(text, words, Kind::Patterns, n, id);
-    if table_rows::MULTIPLIERS_MOST < k + count {
+    let more = k + p.count;
+    if table_rows::MULTIPLIERS_MOST < more {
         return Err(Reason::NoRoom);
     }
-    let mut t = s;
-    t.multipliers = k + count;
-    match found {
+    match table_find::find_at(text, words, Kind::Patterns, n, p.id) {
         Some(i) => {
             put_multipliers(line, first, p, k, i, words, numbers);
-            Ok(t)
+            Ok(Counts {
+                multipliers: more,
+                ..s
+            })
         }
         None => {
             if n < table_rows::PATTERNS_MOST {
                 table_rows::put_id(
                     text,
-                    id,
+                    p.id,
                     n,
                     table_rows::PATTERNS_AT,
                     table_rows::PATTERN_SLOTS_AT,
                     words,
                 );
                 put_multipliers(line, first, p, k, n, words, numbers);
-                t.patterns = n + 1;
-                return Ok(t);
+                return Ok(Counts {
+                    patterns: n + 1,
+                    multipliers: more,
+                    ..s
+                });
             }
             Err(Reason::NoRoom)
         }
@@ -139,9 +134,6 @@ pub fn pattern_line(
 {
     let line = &text[..end];
     let mut first = [0.0; 8];
-    let read = parse_series::read_pattern(line, at, &mut first);
-    match read {
-        Ok(p) => store_pattern(text, line, &first, p, s, words, numbers),
-        Err(why) => Err(why),
-    }
+    let p = parse_series::read_pattern(line, at, &mut first)?;
+    store_pattern(text, line, &first, p, s, words, numbers)
 }
