@@ -30,6 +30,7 @@ fn count_multipliers(l: &[u8], at: usize, first: &mut [f64]) -> Result<(usize, u
     let mut n: usize = 0;
     let mut p = at;
     let mut rest = at;
+    // No `for`: where the next number stands is known once this one is read.
     while let Some((number, next)) = parse_fields::next_number(l, p) {
         let x = number?;
         if n < first.len() {
