@@ -124,9 +124,6 @@ module _ {fs gs : List Name} {k pattern : ℕ} {w0 w : List ℕ} {f0 f : List Fl
     inside : g.j < length g.xs
     inside = omega (arith, ap length next.2, length-drop g.j g.xs)
 
-    pub room_for : i < room_multipliers
-    room_for = omega (arith, inside, g.here, g.placed.room)
-
     pub turn : Storing fs hs k pattern w0 (set w (multipliers_at + i) pattern) f0 (set f (multiplier_numbers_at + i) x) (i + 1)
     turn =
         let d : drop g.j g.xs ≡ get_or g.xs g.j nan ∷ drop (suc g.j) g.xs = drop-cons g.xs g.j nan inside in
