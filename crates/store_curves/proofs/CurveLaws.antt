@@ -8,7 +8,7 @@ use mathlib.Core.Path.{◌≡◌, refl, ap, ◌∙◌}
 use mathlib.Core.Bool.{Bool, true, false, cond, ◌&&◌}
 use mathlib.Core.List.{List, [], ◌∷◌, ◌++◌}
 use lib.ListN.{length, take, get_or, length-append}
-use lib.Seq.{take-suc, take_all}
+use lib.Seq.{take-suc}
 use lib.Dec.{ltb, eqb}
 use lib.Ieee.{Float, lt}
 use Rattle.leaf_fields.specs.Fields.{part, name_in, Fits}
@@ -45,9 +45,6 @@ pub record Sought (w : List ℕ) (f : List Float) (points curve k : ℕ) : Type 
   pub left : (text : List ℕ) (m : Network) → Words text m w → Numbers m f → points ≡ length m.points → last_x curve m.points ≡ last_x curve (take k m.points)
 
 module _ (w : List ℕ) (f : List Float) (points curve : ℕ) where
-  pub start-sought : Sought w f points curve points
-  start-sought = record { upto = omega arith; left = λ text m hw hf e. rw (take_all points m.points (omega arith)) }
-
   module _ {k : ℕ} (g : Sought w f points curve k) (more : 0 < k) where
     split : {text : List ℕ} {m : Network} → Words text m w → Numbers m f → points ≡ length m.points
         → last_x curve m.points ≡ or_else (cond (eqb (get_or w (points_at + (k - 1)) 0) curve) (Some (get_or m.points (k - 1) no_point).x) None) (last_x curve (take (k - 1) m.points))
