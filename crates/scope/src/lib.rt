@@ -8,7 +8,7 @@ use leaf_clock::TimeError;
 use leaf_decimals::NumberError;
 use leaf_fields::Span;
 
-// "Sections read and sections passed over": the thirteen that are read, and whatever is passed over.
+// "Sections read and sections passed over": the thirteen that are read, and whatever is passed over. `Passed` is a section like the others, and no None: lines are counted under it.
 #[derive(Clone, Copy)]
 pub enum Section {
     Junctions,
@@ -151,7 +151,7 @@ pub enum ValveType {
     Pcv,
 }
 
-// The six times that are kept.
+// The six times that are kept. `Dropped` is a case, and no None: `set_time` (specs/Times.antt) says what each does to the network, this one nothing.
 #[derive(Clone, Copy)]
 pub enum TimeOption {
     Duration,
@@ -256,14 +256,14 @@ pub struct Counts {
     pub clauses: usize,
 }
 
-// What strict reading answers: 0 and line 0, or the number and the line of the first refused piece.
+// What strict reading answers: 0 and line 0, or the number and the line of the first refused piece. Numbers, and no Result: `inp_read_strict` hands them to C.
 #[derive(Clone, Copy)]
 pub struct Answer {
     pub number: u8,
     pub line: usize,
 }
 
-// What a survey answers: 0, or the number of a text refused whole; the lines of the text and how many are of each class.
+// What a survey answers: 0, or the number of a text refused whole; the lines of the text and how many are of each class. The number is what `inp_read_survey` hands to C.
 #[derive(Clone, Copy)]
 pub struct Survey {
     pub number: u8,

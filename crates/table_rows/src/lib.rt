@@ -1,4 +1,5 @@
-// The two tables that the caller lends: their layout, and what is stored of a record.
+// The two tables that the caller lends: their layout, and what is stored of a record. Each is handed on as a slice of its own: in a struct of two `&mut` slices
+// every contract would have to say besides that the slices are still the caller's, and without that the entry points' promises did not close (tried).
 #![tactic(auto)]
 
 ghost use Rattle.std.specs.Prelude.{◌≡◌, ◌+◌, ◌*◌, ◌≤◌, ◌<◌, length, replicate};
