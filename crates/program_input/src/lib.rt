@@ -17,6 +17,7 @@ const NAME_ROOM: usize = 4096;
 const NAME_TOO_LONG: i32 = 36;
 
 // Reads until the buffer is full or the input ends.
+// A loop by hand, as std's `read_to_end` asks for memory, and its `read_exact` for the whole buffer.
 fn read_all<R: Read>(from: &mut R, buffer: &mut [u8]) -> io::Result<usize>
     ensures { IfOk result (λ n. n ≤ length buffer.new) }
 {

@@ -14,7 +14,7 @@ fn show_demands<W: Write>(out: &mut W, stored: Stored, node: usize) -> io::Resul
         if d.node == node {
             let base = Bits(d.base);
             let pattern = write_text::name_in(stored.text, d.pattern);
-            let index = write_text::index_of(d.index);
+            let index = OrDash(d.index);
             writeln!(out, "  demand {base} {pattern} {index}")?;
         }
     }
@@ -41,7 +41,7 @@ fn show_node<W: Write>(out: &mut W, stored: Stored, i: usize) -> io::Result<()> 
         NodeKind::Reservoir(r) => {
             let elevation = Bits(r.elevation);
             let pattern = write_text::name_in(stored.text, r.pattern);
-            let index = write_text::index_of(r.index);
+            let index = OrDash(r.index);
             writeln!(out, "node R {id} {elevation} {place} 0 {pattern} {index}")
         }
         NodeKind::Tank(t) => {

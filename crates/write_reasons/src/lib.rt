@@ -28,6 +28,7 @@ fn in_words(reason: Reason) -> &'static str {
 }
 
 // A line that is refused by itself, or the first line of a rule that is refused or still open.
+// Class and reason are numbers, as the tables that C lends hold them (include/inp.h).
 fn show_line<W: Write>(
     out: &mut W,
     number: usize,

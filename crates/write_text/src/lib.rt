@@ -67,18 +67,7 @@ impl<T: fmt::Display> fmt::Display for OrDash<T> {
 
 // A name, if there is one.
 pub fn name_in(text: &[u8], name: Option<Span>) -> OrDash<Id<'_>> {
-    match name {
-        Some(place) => OrDash(Some(Id::of(text, place))),
-        None => OrDash(None),
-    }
-}
-
-// A place in a table, if there is one.
-pub fn index_of(found: Option<usize>) -> OrDash<usize> {
-    match found {
-        Some(i) => OrDash(Some(i)),
-        None => OrDash(None),
-    }
+    OrDash(name.map(|place| Id::of(text, place)))
 }
 
 // A line as it stands, but for a byte that does not print: a blank.
