@@ -24,7 +24,7 @@ use scope::{Action, Condition, Counts, Reason, Value};
 
 // ---- clauses
 
-// A clause at the place `n`.
+// A clause at the place `n`. Numbers and no enums: they are the words that the table holds.
 fn put_clause(
     text: &[u8],
     n: usize,
