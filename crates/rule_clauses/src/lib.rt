@@ -226,7 +226,7 @@ pub fn read_action_head(l: &[u8], at: usize) -> Result<ActionHead, Reason>
     Ok(ActionHead { kind, id })
 }
 
-// Whether a link, which is a pipe, a pump or a valve, is of the kind that the word names.
+// Whether a link, which is a pipe, a pump or a valve, is of the kind that the word names. Three flags, as `table_find` tells a stored link's kind by three tests.
 #[tactic(auto, unfolding(scope::specs::Rules::kind_fits))]
 pub fn kind_fits(w: &[u8], pipe: bool, pump: bool, valve: bool) -> Result<(), Reason>
     ensures { (k : LinkKind) → pipe ≡ is_pipe k → pump ≡ is_pump k → valve ≡ is_valve k → kind_read result ≡ kind_fits w.now k }

@@ -15,7 +15,7 @@ use leaf_fields::Span;
 use rule_clauses::{ActionHead, RuleWord};
 use scope::{Action, Condition, Kind, Operator, Reason};
 
-// ---- actions
+// ---- actions. The text, the words and the count of links are handed on apart: the words are written between two lines, so a struct of the three would be made for each line.
 
 // What an action does to the link of its id.
 fn action_at(

@@ -25,7 +25,7 @@ use table_codes::Coded;
 
 // ---- clauses
 
-// A clause at the place `n`.
+// A clause at the place `n`. Numbers and no enums: they are the words that the table holds.
 fn put_clause(
     text: &[u8],
     n: usize,
