@@ -199,11 +199,11 @@ Without FILE it reads standard input. The sheet shows
 ";
 
 fn answer<W: Write>(rt: &HostRuntime, out: &mut W) -> io::Result<()> {
-    if program_input::argument_is(rt, 1, "--help") {
+    if program_input::argument_is(rt, 1, b"--help") {
         return write!(out, "{HELP}");
     }
     let mut buffer = [0u8; program_input::TEXT_ROOM];
-    match program_input::read_argument(rt, "crew", 1, &mut buffer)? {
+    match program_input::read_argument(rt, b"crew", 1, &mut buffer)? {
         Some(n) => show(out, &buffer[..n]),
         None => Ok(()),
     }

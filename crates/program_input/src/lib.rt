@@ -39,11 +39,12 @@ fn words_of(said: &str) -> &str {
 }
 
 // Says what failed and why: the program's name, what it failed on, and the system's words.
-fn complain(rt: &HostRuntime, program: &str, what: &[u8], why: io::Error) -> io::Result<()> {
+fn complain(rt: &HostRuntime, program: &[u8], what: &[u8], why: io::Error) -> io::Result<()> {
     let said = format!(in rt.alloc(); "{why}")?;
     let words = words_of(said.as_str());
     let mut to = rt.stderr();
-    write!(to, "{program}: ")?;
+    to.write_all(program)?;
+    to.write_all(b": ")?;
     to.write_all(what)?;
     writeln!(to, ": {words}")
 }
@@ -51,7 +52,7 @@ fn complain(rt: &HostRuntime, program: &str, what: &[u8], why: io::Error) -> io:
 // How many bytes were read; where they could not be, none, and why is said on standard error.
 fn told(
     rt: &HostRuntime,
-    program: &str,
+    program: &[u8],
     what: &[u8],
     read: io::Result<usize>,
 ) -> io::Result<Option<usize>>
@@ -79,7 +80,7 @@ fn read_path(rt: &HostRuntime, path: &[u8], buffer: &mut [u8]) -> io::Result<usi
 // filled. What goes wrong is said on standard error.
 pub fn read_argument(
     rt: &HostRuntime,
-    program: &str,
+    program: &[u8],
     i: usize,
     buffer: &mut [u8],
 ) -> io::Result<Option<usize>>
@@ -104,7 +105,7 @@ pub fn read_argument(
 }
 
 // Whether argument `i` is the word.
-pub fn argument_is(rt: &HostRuntime, i: usize, word: &str) -> bool {
+pub fn argument_is(rt: &HostRuntime, i: usize, word: &[u8]) -> bool {
     let mut space = [0u8; NAME_ROOM];
-    matches!(rt.arg(i, &mut space), Ok(n) if &space[..n] == word.as_bytes())
+    matches!(rt.arg(i, &mut space), Ok(n) if &space[..n] == word)
 }

@@ -66,12 +66,12 @@ Prints the records that are stored. Without FILE it reads standard input.
 ";
 
 fn answer<W: Write>(rt: &HostRuntime, out: &mut W) -> io::Result<()> {
-    let strict = program_input::argument_is(rt, 1, "strict");
-    if !strict && !program_input::argument_is(rt, 1, "survey") {
+    let strict = program_input::argument_is(rt, 1, b"strict");
+    if !strict && !program_input::argument_is(rt, 1, b"survey") {
         return write!(out, "{HELP}");
     }
     let mut buffer = [0u8; program_input::TEXT_ROOM];
-    match program_input::read_argument(rt, "records", 2, &mut buffer)? {
+    match program_input::read_argument(rt, b"records", 2, &mut buffer)? {
         Some(n) if strict => show_strict(out, &buffer[..n]),
         Some(n) => show_survey(out, &buffer[..n]),
         None => Ok(()),

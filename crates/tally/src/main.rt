@@ -73,13 +73,13 @@ Without FILE it reads standard input.
 ";
 
 fn answer<W: Write>(rt: &HostRuntime, out: &mut W) -> io::Result<()> {
-    if program_input::argument_is(rt, 1, "--help") {
+    if program_input::argument_is(rt, 1, b"--help") {
         return write!(out, "{HELP}");
     }
-    let in_words = program_input::argument_is(rt, 1, "--explain");
+    let in_words = program_input::argument_is(rt, 1, b"--explain");
     let file = if in_words { 2 } else { 1 };
     let mut buffer = [0u8; program_input::TEXT_ROOM];
-    match program_input::read_argument(rt, "tally", file, &mut buffer)? {
+    match program_input::read_argument(rt, b"tally", file, &mut buffer)? {
         Some(n) => show(out, &buffer[..n], in_words),
         None => Ok(()),
     }
