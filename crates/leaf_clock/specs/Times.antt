@@ -89,7 +89,7 @@ abbrev pub on_count : Option ℕ → (ℕ → Result ℕ TimeError) → Result �
 on_count None go = Err Malformed
 on_count (Some n) go = cond (nat_le n 1000000000) (go n) (Err Beyond)
 
--- "Ok = hours x 3600 + minutes x 60."
+-- "Seconds = hours x 3600 + minutes x 60."
 unfoldable pub colon_form : List ℕ → List ℕ → List ℕ → Result ℕ TimeError
 unfolding hour_of
 colon_form hours minutes suffix = on_count (count_of hours) (λ h. on_count (count_of minutes) (λ m. Ok (hour_of h suffix * 3600 + m * 60)))

@@ -27,10 +27,7 @@ fn read_whole(s: &[u8]) -> Option<u64>
     }
     let mut v = 0;
     for b in s {
-        let Some(more) = with_digit(v, *b) else {
-            return None;
-        };
-        v = more;
+        v = with_digit(v, *b)?;
     }
     Some(v)
 }

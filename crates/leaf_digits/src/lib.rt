@@ -65,10 +65,7 @@ pub fn digit_value(b: u8) -> u64
 pub fn lowered(b: u8) -> u8
     ensures { result ≡ lower b }
 {
-    match b {
-        b'A'..=b'Z' => b + 32,
-        _ => b,
-    }
+    b.to_ascii_lowercase()
 }
 
 // ---- where a word ends

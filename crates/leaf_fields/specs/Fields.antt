@@ -44,12 +44,12 @@ abbrev pub rest : List Name → List Name
 rest [] = []
 rest (f ∷ fs) = fs
 
--- the bytes of the first field; or, where there is None, the other text
+-- the bytes of the first field; or, where there is none, the other text
 abbrev pub letters_or : List ℕ → List Name → List ℕ
 letters_or other [] = other
 letters_or other (f ∷ fs) = f.letters
 
--- where the first field ends; or, where there is None, the place `at`
+-- where the first field ends; or, where there is none, the place `at`
 abbrev pub end_or : ℕ → List Name → ℕ
 end_or at [] = at
 end_or at (f ∷ fs) = f.at + length f.letters
@@ -59,7 +59,7 @@ pub record Fits (l : List ℕ) (s : Span) : Type 0 where
   pub some : s.at < s.end
   pub inside : s.end ≤ length l
 
--- f is the next field of l from the place `at` on: the first of its fields there, with the others after it; or there is None
+-- f is the next field of l from the place `at` on: the first of its fields there, with the others after it; or there is none
 pub record Next (l : List ℕ) (at : ℕ) (f : Option Span) : Type 0 where
   pub taken : (s : Span) → f ≡ Some s → (fields_at l at ≡ name_in l s ∷ fields_at l s.end) × Fits l s
   pub nothing : f ≡ None → fields_at l at ≡ []

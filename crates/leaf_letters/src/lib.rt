@@ -30,10 +30,7 @@ pub fn equal(a: &[u8], b: &[u8]) -> bool
 fn raise(b: u8) -> u8
     ensures { result ≡ raised b }
 {
-    match b {
-        b'a'..=b'z' => b - 32,
-        _ => b,
-    }
+    b.to_ascii_uppercase()
 }
 
 // Whether a text, its letters raised, is the word.

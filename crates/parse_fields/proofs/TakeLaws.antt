@@ -95,23 +95,6 @@ module _ (l : List ℕ) (at start : ℕ) (es : start ≡ start_at l at) where
 pub plain-whole : (s : List ℕ) (n : Result Float NumberError) (len : ℕ) (p : Option (Result Float NumberError × ℕ)) → Begins s p → p ≡ Some (n, len) → len ≡ length s → n ≡ number_of s
 plain-whole s n len p b e h = let (k, q) = subst (Begins s) e b in q ∙ ap number_of (take_all len s (omega (arith, h)))
 
-module _ (l : List ℕ) (at : ℕ) (r : Option (Result Float NumberError × ℕ)) (h : Numbered l at r) where
-  module _ (n : Result Float NumberError) (end : ℕ) (e : r ≡ Some (n, end)) where
-    is : Numbered l at (Some (n, end))
-    is = subst (Numbered l at) e h
-
-    pub took-next : as_number n (fields_at l end) ≡ number_from (fields_at l at)
-    took-next = let (f, k, q) = is in rw k (ap (λ (x : Result Float NumberError). as_number x (fields_at l end)) q)
-
-    pub swallowed-next : (d : Float) → as_swallowed d n (fields_at l end) ≡ swallowed_from d (fields_at l at)
-    swallowed-next d = let (f, k, q) = is in rw k (ap (λ (x : Result Float NumberError). as_swallowed d x (fields_at l end)) q)
-
-  pub took-none : r ≡ None → refused reason.Missing ≡ number_from (fields_at l at)
-  took-none e = sym (ap number_from (subst (Numbered l at) e h))
-
-  pub swallowed-none : r ≡ None → (d : Float) → took d (fields_at l at) ≡ swallowed_from d (fields_at l at)
-  swallowed-none e d = let k : fields_at l at ≡ [] = subst (Numbered l at) e h in rw k
-
 -- a field that may be there
 module _ {l : List ℕ} {at : ℕ} where
   pub optional : (f : Option Span) → Next l at f → optional_from (fields_at l at) ≡ took (opt_in l f) (rest (fields_at l at))

@@ -73,7 +73,8 @@ pub fn take_number_or<'a>(l: &'a [u8], at: usize, other: &'a [u8]) -> Result<(f6
     Ok((x, at))
 }
 
-// A number that is `other` where it is missing or malformed; one beyond reach is refused even here.
+// A number that is `other` where it is missing or malformed; one beyond reach is refused even here. Taken apart by `let else`, malformed and beyond reach apart, as the
+// house wants it where a malformed number is swallowed (docs/DECISIONS.md, "Language forms").
 pub fn take_swallowed(l: &[u8], at: usize, other: f64) -> Result<(f64, usize), Reason>
     ensures { took_in l.now result ≡ swallowed_from other (fields_at l.now at) }
 {

@@ -63,6 +63,7 @@ pub fn read_pairs(l: &[u8], at: usize) -> Result<Pump, Reason>
         power: 0.0,
     };
     let mut i = at;
+    // No `for`: where the next pair stands is known once this one is read.
     while let Some(word) = leaf_fields::next_field(l, i) {
         let Some(value) = leaf_fields::next_field(l, word.end) else {
             return Ok(p);

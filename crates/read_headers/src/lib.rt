@@ -190,6 +190,7 @@ fn own_from(text: &[u8], from: usize) -> Option<Span>
 {
     let mut section = Section::Rules;
     let mut p = from;
+    // From a line's end to the next: where a line ends is found by a scan that answers a place.
     while p < text.len() {
         let e = leaf_scans::line_end(text, p);
         let k = sort_of(leaf_letters::cut(text, 0, e), p);

@@ -151,6 +151,7 @@ fn take_lines(
     let links = s.links;
     let mut q = rule_groups::no_sketch();
     let mut p = first;
+    // No `for`: where the next line stands is known once this one is found.
     while let Some(line) = read_headers::next_own(text, at, p) {
         let read = rule_lines::read_line(
             read_headers::own_bytes(text, line),

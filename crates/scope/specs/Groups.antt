@@ -9,7 +9,7 @@ use Rattle.scope.specs.Records.{Network, Rule, Clause, condition, action, Condit
 use Rattle.scope.specs.Values.{Read, good, on_read, on_took, name_from, count_from}
 use Rattle.scope.specs.Rules.{condition_of, action_of}
 
--- a line with the first word w; whether there is one among Some lines; the last of them that is one
+-- a line with the first word w; whether there is one among some lines; the last of them that is one
 abbrev pub opens_with : List ℕ → List Name → Bool
 opens_with w [] = false
 opens_with w (f ∷ fs) = same f.letters w
@@ -94,7 +94,7 @@ abbrev pub priority_from : Option (List Name) → Read (Option ℕ)
 priority_from None = good None
 priority_from (Some l) = on_read (count_from (rest l)) (λ n. good (Some n))
 
--- ---- the conditions, and the actions, among Some clauses
+-- ---- the conditions, and the actions, among some clauses
 abbrev pub conditions_in : List Clause → List Condition
 conditions_in [] = []
 conditions_in (condition c ∷ cs) = c ∷ conditions_in cs
@@ -105,7 +105,7 @@ actions_in [] = []
 actions_in (condition c ∷ cs) = actions_in cs
 actions_in (action a ∷ cs) = a ∷ actions_in cs
 
--- ---- a rule and its clauses `new` are what the lines ls say, links being looked up in m: each line that says a clause was good, None is lost, added or moved, and there are
+-- ---- a rule and its clauses `new` are what the lines ls say, links being looked up in m: each line that says a clause was good, none is lost, added or moved, and there are
 -- no other lines but RULE and PRIORITY
 pub record Says (ls : List (List Name)) (m : Network) (rule : Rule) (new : List Clause) : Type 0 where
   pub clauses : map (λ (c : Clause). good c) new ≡ clauses_from m ls

@@ -65,7 +65,7 @@ reservoir_of fs =
 unfoldable pub reservoir_step : List Name → Network → Read Network
 reservoir_step fs m = on_read (reservoir_of fs) (λ n. add_node n m)
 
--- "then a curve (* is None) and overflow (YES in any case)"
+-- "then a curve (* is none) and overflow (YES in any case)"
 abbrev pub curve_in : List Name → Option Name
 curve_in [] = None
 curve_in (f ∷ fs) = cond (same f.letters sign_star) None (Some f)

@@ -172,7 +172,7 @@ elses (action a ∷ cs) = a.otherwise ∷ elses cs
 whole : ℕ → Float
 whole n = of_int binary64 (pos n)
 
--- a network whose nodes are full, and a node of one letter, or of None as those have
+-- a network whose nodes are full, and a node of one letter, or of none as those have
 full : Network
 full = with_nodes (replicate room_nodes no_node) no_network
 

@@ -39,7 +39,7 @@ add_point id x y m =
 unfoldable pub curve_step : List Name → Network → Read Network
 curve_step fs m = on_read (pair_of fs) (λ p. add_point p.id p.x p.y m)
 
--- ---- "Pattern: id and any count of multipliers, None included; all or nothing."
+-- ---- "Pattern: id and any count of multipliers, none included; all or nothing."
 unfoldable pub multipliers_of : List Name → Read (List Float)
 multipliers_of [] = good []
 multipliers_of (f ∷ fs) = on_took (as_number (number_of f.letters) fs) (λ x rest. on_read (multipliers_of fs) (λ xs. good (x ∷ xs)))

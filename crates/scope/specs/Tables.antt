@@ -61,7 +61,7 @@ abbrev pub flag : Bool → ℕ
 flag false = 0
 flag true = 1
 
--- None is 0 and an index is itself plus one
+-- none is 0 and an index is itself plus one
 abbrev pub index_no : Option ℕ → ℕ
 index_no None = 0
 index_no (Some i) = suc i
@@ -216,7 +216,7 @@ slots_from slot i (r ∷ rs) ss = slots_from slot (suc i) rs (marked ss (slot r)
 abbrev pub slots : {R : Type 0} → (R → ℕ) → ℕ → List R → List ℕ
 slots slot n rs = slots_from slot 0 rs (replicate n 0)
 
--- the slot of a node, a link, a curve or a pattern is by the key of its name, a demand's by its junction; rules have None
+-- the slot of a node, a link, a curve or a pattern is by the key of its name, a demand's by its junction; rules have none
 abbrev pub slot_of : ℕ → ℕ
 slot_of key = key % room_slots
 

@@ -39,7 +39,7 @@ unfolding last_x
 last_of i [] p = or-none (cond (eqb p.curve i) (Some p.x) None)
 last_of i (q ∷ ps) p = rw (last_of i ps p) (or-again (cond (eqb p.curve i) (Some p.x) None) (last_x i ps) (cond (eqb q.curve i) (Some q.x) None))
 
--- ---- the scan: the points from number k on are None of the curve's
+-- ---- the scan: the points from number k on are none of the curve's
 pub record Sought (w : List ℕ) (f : List Float) (points curve k : ℕ) : Type 0 where
   pub upto : k ≤ points
   pub left : (text : List ℕ) (m : Network) → Words text m w → Numbers m f → points ≡ length m.points → last_x curve m.points ≡ last_x curve (take k m.points)

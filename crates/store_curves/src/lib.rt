@@ -41,6 +41,8 @@ fn put_point(words: &mut [u64], numbers: &mut [f64], k: usize, curve: usize, x: 
     );
 }
 
+// A curve that is there gets a point more, else it is a new one. `store_patterns::store_pattern` does the same with many numbers at once: one promise over both would be longer
+// than the two.
 fn store_point(
     text: &[u8],
     p: PairLine,

@@ -69,6 +69,7 @@ fn put_multipliers(
     put_rest(l, p.rest, k + first.len(), pattern, words, numbers);
 }
 
+// As `store_curves::store_point`, with many numbers at once.
 fn store_pattern(
     text: &[u8],
     line: &[u8],

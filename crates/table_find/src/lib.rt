@@ -169,7 +169,7 @@ pub fn node_named(text: &[u8], words: &[u64], nodes: usize, name: Span) -> Optio
     find_at(text, words, Kind::Nodes, nodes, name)
 }
 
-// ---- what a record is
+// ---- what a record is: three tests of a link, as the definitions have three (`is_pipe` and its kind, crates/scope/specs/Rules.antt)
 
 pub fn is_junction(words: &[u64], i: usize) -> bool
     requires { (i < room_nodes) × (length words.now ≡ record_words) }

@@ -90,7 +90,7 @@ pub record Holds (text : List ℕ) (m : Network) (s : Counts) (w : List ℕ) (f 
   pub words : Words text m w
   pub numbers : Numbers m f
 
--- Some network is held
+-- some network is held
 pub record Sound (text : List ℕ) (s : Counts) (w : List ℕ) (f : List Float) : Type 0 where
   pub m : Network
   pub holds : Holds text m s w f
