@@ -92,12 +92,18 @@ pub fn ends_at(s: &[u8], i: usize) -> bool
 // A multiple of 10 that fits, far past what any caller asks of a number.
 const CAP: u64 = 18446744073709551610;
 
-// v with one digit more, up to a number past which it no longer matters.
+// v with one digit more, up to a number past which it no longer matters. One comparison, as it runs for each digit: of std's
+// saturating operations each is a choice of its own that the next digit waits for, and a signed number then takes a quarter
+// longer (docs/LOOK-BACK.md).
 fn extended(v: u64, b: u8) -> u64
     requires { (48 ≤ b) × (b ≤ 57) }
     ensures { result ≡ min (v * 10 + (b - 48)) cap }
 {
-    v.saturating_mul(10).saturating_add(digit_value(b)).min(CAP)
+    if v < CAP / 10 {
+        v * 10 + digit_value(b)
+    } else {
+        CAP
+    }
 }
 
 // The digits that a text begins with: how many they are, and the number that they are, with the
