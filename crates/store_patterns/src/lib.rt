@@ -34,15 +34,17 @@ fn put_rest(l: &[u8], at: usize, k: usize, pattern: usize, words: &mut [u64], nu
     }
 }
 
-// The numbers as multipliers of a pattern, from multiplier number `k` on.
+// The numbers as multipliers of a pattern, from multiplier number `k` on. One by one: of a copy of so many numbers as a line has the
+// compiler makes a call of memcpy, and the library for C needs nothing but memset (include/inp.h).
 fn put_numbers(xs: &[f64], k: usize, pattern: usize, words: &mut [u64], numbers: &mut [f64])
     requires { (k + length xs.now ≤ room_multipliers) × (length words.old ≡ record_words) × (length numbers.old ≡ room_numbers) }
     ensures { (words.new ≡ splice words.old (multipliers_at + k) (replicate (length xs.now) pattern))
         × (numbers.new ≡ splice numbers.old (multiplier_numbers_at + k) xs.now) }
 {
-    let at = table_rows::MULTIPLIERS_AT + k;
-    words[at..at + xs.len()].fill(pattern as u64);
-    table_rows::paste(numbers, table_rows::MULTIPLIER_NUMBERS_AT + k, xs);
+    for i in 0..xs.len() {
+        words[table_rows::MULTIPLIERS_AT + k + i] = pattern as u64;
+        numbers[table_rows::MULTIPLIER_NUMBERS_AT + k + i] = xs[i];
+    }
 }
 
 // The multipliers of a line, from multiplier number `k` on. Those in `first` are not read again.
