@@ -21,6 +21,10 @@ pub record Sketched (text : List ℕ) (d : Draft) (q : Sketch) : Type 0 where
   pub conditions : some? is_condition d.clauses ≡ q.conditions
   pub actions : some? is_action d.clauses ≡ q.actions
 
+abbrev pub SketchAs : List ℕ → Read Draft → Result Sketch Reason → Type 0
+SketchAs text o (Ok q) = (d : Draft) × (o ≡ good d) × Sketched text d q
+SketchAs text o (Err why) = o ≡ bad why
+
 -- ---- the group judged
 pub record Fine (text : List ℕ) (d : Draft) (m : Network) (o : Read Network) (id : Span) : Type 0 where
   pub whole : o ≡ good (with_rule (name_in text id) d m)

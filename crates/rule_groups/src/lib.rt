@@ -4,10 +4,11 @@
 ghost use Rattle.std.specs.Prelude.{◌≡◌, List, ℕ, ◌+◌, ◌≤◌, ◌<◌, length};
 ghost use Rattle.scope.specs.Records.{Network, Clause, with_clauses};
 ghost use Rattle.scope.specs.Sections.{room_clauses};
+ghost use Rattle.scope.specs.Values.{good, on_read};
 ghost use Rattle.scope.specs.Rules.{Draft, no_draft, judged};
 ghost use Rattle.table_rows.specs.Holding.{Words};
-ghost use Rattle.rule_lines.specs.Lines.{with_said, said_in, SayingFits};
-ghost use Rattle.rule_groups.specs.Sketches.{Sketched, JudgedAs};
+ghost use Rattle.rule_lines.specs.Lines.{with_said, said_in, said_read, SayingFits, LineFits};
+ghost use Rattle.rule_groups.specs.Sketches.{Sketched, SketchAs, JudgedAs};
 
 use leaf_fields::Span;
 use rule_lines::Saying;
@@ -41,8 +42,8 @@ pub fn no_sketch() -> Sketch
     }
 }
 
-// The sketch with one line more.
-pub fn see(q: Sketch, said: Saying) -> Sketch
+// The sketch with what a line says besides.
+pub fn with_line(q: Sketch, said: Saying) -> Sketch
     requires { q.clauses + 1 < 18446744073709551616 }
     ensures { (text : List ℕ) (d : Draft) → Sketched text d q → SayingFits text said → Sketched text (with_said (said_in text said) d) result }
 {
@@ -65,6 +66,15 @@ pub fn see(q: Sketch, said: Saying) -> Sketch
             ..q
         },
     }
+}
+
+// The sketch with one line more, or why the line is refused.
+pub fn see(q: Sketch, read: Result<Saying, Reason>) -> Result<Sketch, Reason>
+    requires { q.clauses + 1 < 18446744073709551616 }
+    ensures { (text : List ℕ) (d : Draft) → Sketched text d q → LineFits text read → SketchAs text (on_read (said_read text read) (λ s. good (with_said s d))) result }
+{
+    let said = read?;
+    Ok(with_line(q, said))
 }
 
 // ---- the group

@@ -1,5 +1,5 @@
 -- What a line of a group says, and what it makes of the draft. Assumes nothing.
-use Rattle.std.specs.Prelude.{None, Option, Some}
+use Rattle.std.specs.Prelude.{Err, None, Ok, Option, Result, Some}
 use Prim.Native.Nat.{ℕ, ◌+◌, ◌≤◌, ◌<◌}
 use native.Mathlib.Omega.{arith}
 use mathlib.Core.Path.{◌≡◌, refl, sym, ap, ◌∙◌}
@@ -10,6 +10,7 @@ use Rattle.leaf_fields.specs.Fields.{Name, name_in, Fits}
 use Rattle.leaf_fields.specs.declared.Span.{Span}
 use Rattle.leaf_fields.proofs.FieldLaws.{part-take}
 use Rattle.scope.specs.declared.Operator.TheVariants as operator
+use Rattle.scope.specs.declared.Reason.{Reason}
 use Rattle.scope.specs.Records.{Network, Action, Clause, link_ids, lookup, condition, action, with_clauses, no_link}
 use Rattle.scope.specs.Values.{Read, good, bad, on_read, count_from}
 use Rattle.scope.specs.Rules.{kind_fits, Draft, anded, action_of, condition_of, line_of}
@@ -25,7 +26,7 @@ use Rattle.table_rows.proofs.ReadLaws.{link-count}
 use Rattle.table_rows.proofs.EmptyLaws.{words_long}
 use Rattle.rule_lines.specs.declared.Saying.{Saying}
 use Rattle.rule_lines.specs.declared.Saying.TheVariants as saying
-use Rattle.rule_lines.specs.Lines.{Said, said_id, said_rank, said_condition, said_action, with_said, and_said, said_by, said_of, said_in, SayingFits}
+use Rattle.rule_lines.specs.Lines.{Said, said_id, said_rank, said_condition, said_action, with_said, and_said, said_by, said_of, said_in, SayingFits, LineFits}
 
 -- ---- one thing after another
 on_then : {A B C : Type 0} (x : Read A) (f : A → B) (g : B → C) → on_read x (λ a. good (g (f a))) ≡ on_read (on_read x (λ a. good (f a))) (λ b. good (g b))
@@ -74,6 +75,10 @@ module _ (text : List ℕ) (end : ℕ) where
   saying-fits-text (saying.Ranked n) h = tt
   saying-fits-text (saying.Condition c) h = may-text c.name h
   saying-fits-text (saying.Action a) h = fits-text a.action.name h
+
+  pub line-fits-text : (r : Result Saying Reason) → LineFits (take end text) r → LineFits text r
+  line-fits-text (Ok s) h = saying-fits-text s h
+  line-fits-text (Err why) h = h
 
   pub said-text : (s : Saying) → SayingFits (take end text) s → said_in (take end text) s ≡ said_in text s
   said-text (saying.Named s) h = rw (name-text s h)

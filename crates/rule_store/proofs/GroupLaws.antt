@@ -14,7 +14,7 @@ use Rattle.leaf_fields.specs.declared.Span.{Span}
 use Rattle.scope.specs.declared.Reason.{Reason}
 use Rattle.scope.specs.declared.Counts.{Counts}
 use Rattle.scope.specs.Records.{Network, Rule, Clause, condition, action, counts_of, with_clauses}
-use Rattle.scope.specs.Values.{Read, good, bad}
+use Rattle.scope.specs.Values.{Read, good, bad, on_read}
 use Rattle.scope.specs.Tables.{rule_words, count_words, id_words, name_words}
 use Rattle.scope.specs.Rules.{Draft, lines_of, no_draft, judged, group_step}
 use Rattle.table_rows.specs.Table.{splice}
@@ -26,11 +26,12 @@ use Rattle.rule_clauses.specs.Clauses.{condition_in}
 use Rattle.read_headers.specs.Own.{group_fields, NextHere}
 use Rattle.rule_lines.specs.declared.Saying.{Saying}
 use Rattle.rule_lines.specs.declared.Saying.TheVariants as saying
-use Rattle.rule_lines.specs.Lines.{action_in, Said, with_said, said_of, said_in, SayingFits}
-use Rattle.rule_lines.proofs.LineLaws.{said_same}
+use Rattle.rule_lines.specs.Lines.{action_in, Said, with_said, said_of, said_in, said_read, SayingFits, LineFits}
+use Rattle.rule_lines.proofs.LineLaws.{said_same, line-fits-text}
 use Rattle.rule_groups.specs.declared.Sketch.{Sketch}
-use Rattle.rule_groups.specs.Sketches.{Sketched, Fine, JudgedAs}
-use Rattle.rule_store.proofs.GoingLaws.{Going, going_start, line-fits, going-with, going-bad}
+use Rattle.rule_groups.specs.Sketches.{Sketched, SketchAs, Fine, JudgedAs}
+use Rattle.rule_groups.proofs.SeeLaws.{seen-one, seen-none}
+use Rattle.rule_store.proofs.GoingLaws.{Going, going_start, going-with, going-bad}
 use Rattle.rule_store.specs.Group.{rule_in, PutClause, PutFitting, Put, HoldsMore, fitting, Taken, ClausesPut}
 
 -- ---- one line more is stored
@@ -57,18 +58,19 @@ module _ (text : List ℕ) (m : Network) (d : Draft) (w w2 : List ℕ) (f f2 : L
         | inr r ↦ add-one-more c r (e.0 r)
       ]
 
-  put-more : (r : Saying) → Put text n r w f w2 f2 → HoldsMore text m (fitting m (with_said (said_in text r) d).clauses) w2 f2
+  put-more : (r : Saying) → Put text n (Ok r) w f w2 f2 → HoldsMore text m (fitting m (with_said (said_in text r) d).clauses) w2 f2
   put-more (saying.Named s) p = unput p
   put-more (saying.Ranked j) p = unput p
   put-more (saying.Condition c) p = put_one (condition (condition_in text c)) p
   put-more (saying.Action a) p = put_one (action (action_in text a.action)) p
 
 -- where there is no room nothing is put
-pub put_full : (text : List ℕ) (n : ℕ) (r : Saying) (w : List ℕ) (f : List Float) → room_clauses ≤ n → Put text n r w f w f
-put_full text n (saying.Named s) w f h = (refl, refl)
-put_full text n (saying.Ranked j) w f h = (refl, refl)
-put_full text n (saying.Condition c) w f h = ((λ k. absurd (omega arith)), λ k. (refl, refl))
-put_full text n (saying.Action a) w f h = ((λ k. absurd (omega arith)), λ k. (refl, refl))
+pub put_full : (text : List ℕ) (n : ℕ) (r : Result Saying Reason) (w : List ℕ) (f : List Float) → room_clauses ≤ n → Put text n r w f w f
+put_full text n (Ok (saying.Named s)) w f h = (refl, refl)
+put_full text n (Ok (saying.Ranked j)) w f h = (refl, refl)
+put_full text n (Ok (saying.Condition c)) w f h = ((λ k. absurd (omega arith)), λ k. (refl, refl))
+put_full text n (Ok (saying.Action a)) w f h = ((λ k. absurd (omega arith)), λ k. (refl, refl))
+put_full text n (Err why) w f h = (refl, refl)
 
 -- ---- where a group is taken
 pub record Started (text : List ℕ) (m : Network) (base links : ℕ) (w : List ℕ) (f : List Float) : Type 0 where
@@ -112,24 +114,44 @@ module _ {m : Network} {text : List ℕ} {at first p : ℕ} {q : Sketch} {w : Li
       let cs : List Clause = m.clauses ++ fitting m t.going.d.clauses in
       er (with_clauses cs m) t.held.words ek ∙ said_same m cs q.acting q.otherwise (fields_at l s.at)
 
-  -- what was read of it is r, and that was put
-  pub taking-on : (r : Saying) → ((x : Network) → Words text x w → links ≡ length x.links → good (said_in l r) ≡ said_of x q.acting q.otherwise (fields_at l s.at)) → SayingFits l r
-      → {base : ℕ} → base ≡ length m.clauses → (w2 : List ℕ) (f2 : List Float) → Put text (base + q.clauses) r w f w2 f2
-      → (next : Sketch) → ((text : List ℕ) (d : Draft) → Sketched text d q → SayingFits text r → Sketched text (with_said (said_in text r) d) next) → Taking m text at first s.end next w2 f2
-  taking-on r er fr {base} eb w2 f2 put next see =
+  -- it says r, and that was put
+  taking-on : (r : Saying) → ((x : Network) → Words text x w → links ≡ length x.links → good (said_in l r) ≡ said_of x q.acting q.otherwise (fields_at l s.at)) → SayingFits l r
+      → {base : ℕ} → base ≡ length m.clauses → (w2 : List ℕ) (f2 : List Float) → Put text (base + q.clauses) (Ok r) w f w2 f2
+      → (next : Sketch) → Sketched text (with_said (said_in text r) t.going.d) next → Taking m text at first s.end next w2 f2
+  taking-on r er fr {base} eb w2 f2 put next sketched =
       let e = said_here (good (said_in l r)) er in
       record {
-        going = going-with t.going s h l el r e fr next (see text t.going.d t.going.sketched (line-fits t.going s h l el r e fr));
+        going = going-with t.going s h l el r e fr next sketched;
         held = put-more text m t.going.d w w2 f f2 t.held (base + q.clauses) (omega (arith, eb, t.going.sketched.long)) r put;
       }
 
   -- it is refused: the clauses before it are there, and are erased
-  pub taking-bad : (why : Reason) → ((x : Network) → Words text x w → links ≡ length x.links → bad why ≡ said_of x q.acting q.otherwise (fields_at l s.at))
+  taking-bad : (why : Reason) → ((x : Network) → Words text x w → links ≡ length x.links → bad why ≡ said_of x q.acting q.otherwise (fields_at l s.at))
       → {w0 w3 : List ℕ} {f0 f3 : List Float} → ((cs : List Clause) → length cs ≡ q.clauses → HoldsMore text m (fitting m cs) w f → (w3 ≡ w0) × (f3 ≡ f0))
       → Taken text m (lines_of m no_draft (group_fields text at first)) (Err why) w0 f0 w3 f3
   taking-bad why er erased =
       let back = erased t.going.d.clauses t.going.sketched.long t.held in
       (going-bad t.going s h l el why (said_here (bad why) er), back.0, back.1)
+
+  -- what was read of it is r, and what was seen then is v
+  module _ (r : Result Saying Reason) (er : (x : Network) → Words text x w → links ≡ length x.links → said_read l r ≡ said_of x q.acting q.otherwise (fields_at l s.at)) (fr : LineFits l r)
+      (v : Result Sketch Reason) (see : (text : List ℕ) (d : Draft) → Sketched text d q → LineFits text r → SketchAs text (on_read (said_read text r) (λ x. good (with_said x d))) v) where
+    seen : SketchAs text (on_read (said_read text r) (λ x. good (with_said x t.going.d))) v
+    seen = see text t.going.d t.going.sketched (line-fits-text text s.end r (subst (λ (x : List ℕ). LineFits x r) el fr))
+
+    pub taking-seen : (next : Sketch) → v ≡ Ok next → {base : ℕ} → base ≡ length m.clauses → (w2 : List ℕ) (f2 : List Float) → Put text (base + q.clauses) r w f w2 f2
+        → Taking m text at first s.end next w2 f2
+    taking-seen next e {base} eb w2 f2 put =
+        let k = seen-one text t.going.d r v seen next e in
+        taking-on k.0 (λ x a b. ap (said_read l) (sym k.1) ∙ er x a b) (subst (λ (y : Result Saying Reason). LineFits l y) k.1 fr) eb w2 f2
+        (subst (λ (y : Result Saying Reason). Put text (base + q.clauses) y w f w2 f2) k.1 put) next k.2
+
+    pub taking-unseen : (why : Reason) → v ≡ Err why → {w0 w3 : List ℕ} {f0 f3 : List Float}
+        → ((cs : List Clause) → length cs ≡ q.clauses → HoldsMore text m (fitting m cs) w f → (w3 ≡ w0) × (f3 ≡ f0))
+        → Taken text m (lines_of m no_draft (group_fields text at first)) (Err why) w0 f0 w3 f3
+    taking-unseen why e erased =
+        let k = seen-none text t.going.d r v seen why e in
+        taking-bad why (λ x a b. ap (said_read l) (sym k) ∙ er x a b) erased
 
 -- ---- the words of a clause's name, and of a rule
 pub name-row : (a b c d v v' : ℕ) (k : List ℕ) (o : Option Name) → v ≡ v' → k ≡ name_words o → a ∷ b ∷ c ∷ d ∷ v ∷ get_or k 0 0 ∷ get_or k 1 0 ∷ [] ≡ a ∷ b ∷ c ∷ d ∷ v' ∷ name_words o

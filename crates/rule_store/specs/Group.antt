@@ -28,11 +28,12 @@ PutClause n c w f w' f' = (w' ≡ splice w (clauses_at + n * clauses_width) (cla
 abbrev pub PutFitting : ℕ → Clause → List ℕ → List Float → List ℕ → List Float → Type 0
 PutFitting n c w f w' f' = (n < room_clauses → PutClause n c w f w' f') × (room_clauses ≤ n → (w' ≡ w) × (f' ≡ f))
 
-abbrev pub Put : List ℕ → ℕ → Saying → List ℕ → List Float → List ℕ → List Float → Type 0
-Put text n (saying.Named s) w f w' f' = (w' ≡ w) × (f' ≡ f)
-Put text n (saying.Ranked k) w f w' f' = (w' ≡ w) × (f' ≡ f)
-Put text n (saying.Condition c) w f w' f' = PutFitting n (condition (condition_in text c)) w f w' f'
-Put text n (saying.Action a) w f w' f' = PutFitting n (action (action_in text a.action)) w f w' f'
+abbrev pub Put : List ℕ → ℕ → Result Saying Reason → List ℕ → List Float → List ℕ → List Float → Type 0
+Put text n (Ok (saying.Named s)) w f w' f' = (w' ≡ w) × (f' ≡ f)
+Put text n (Ok (saying.Ranked k)) w f w' f' = (w' ≡ w) × (f' ≡ f)
+Put text n (Ok (saying.Condition c)) w f w' f' = PutFitting n (condition (condition_in text c)) w f w' f'
+Put text n (Ok (saying.Action a)) w f w' f' = PutFitting n (action (action_in text a.action)) w f w' f'
+Put text n (Err why) w f w' f' = (w' ≡ w) × (f' ≡ f)
 
 -- the tables hold m with these clauses more
 abbrev pub HoldsMore : List ℕ → Network → List Clause → List ℕ → List Float → Type 0

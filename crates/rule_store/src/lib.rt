@@ -97,17 +97,23 @@ fn put_action(text: &[u8], a: Action, n: usize, words: &mut [u64], numbers: &mut
 }
 
 // The clause of a line, where it has one, at the place `n`, where there is room.
-fn put_line(text: &[u8], said: Saying, n: usize, words: &mut [u64], numbers: &mut [f64])
+fn put_line(
+    text: &[u8],
+    read: Result<Saying, Reason>,
+    n: usize,
+    words: &mut [u64],
+    numbers: &mut [f64],
+)
     requires { (length words.old ≡ record_words) × (length numbers.old ≡ room_numbers) }
-    ensures { Put text.now n said words.old numbers.old words.new numbers.new }
+    ensures { Put text.now n read words.old numbers.old words.new numbers.new }
 {
     if table_rows::CLAUSES_MOST <= n {
         return;
     }
-    match said {
-        Saying::Named(_) | Saying::Ranked(_) => {}
-        Saying::Condition(c) => put_condition(text, c, n, words, numbers),
-        Saying::Action(a) => put_action(text, a.action, n, words, numbers),
+    match read {
+        Ok(Saying::Condition(c)) => put_condition(text, c, n, words, numbers),
+        Ok(Saying::Action(a)) => put_action(text, a.action, n, words, numbers),
+        Ok(Saying::Named(_) | Saying::Ranked(_)) | Err(_) => {}
     }
 }
 
@@ -162,10 +168,10 @@ fn take_lines(
             words,
             links,
         );
-        match read {
-            Ok(said) => {
-                put_line(text, said, base + q.clauses, words, numbers);
-                q = rule_groups::see(q, said);
+        match rule_groups::see(q, read) {
+            Ok(next) => {
+                put_line(text, read, base + q.clauses, words, numbers);
+                q = next;
                 p = line.end;
             }
             Err(why) => {

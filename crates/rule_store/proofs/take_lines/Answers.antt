@@ -3,7 +3,7 @@ use native.Mathlib.Omega.{arith}
 use Rattle.table_rows.proofs.HoldLaws.{bound-clauses}
 use Rattle.table_rows.proofs.AfterLaws.{holds-words, holds-numbers}
 use Rattle.rule_store.proofs.GoingLaws.{falls}
-use Rattle.rule_store.proofs.GroupLaws.{started, taking-start, taking-words, taking-end, taking-on, taking-bad}
+use Rattle.rule_store.proofs.GroupLaws.{started, taking-start, taking-words, taking-end, taking-seen, taking-unseen}
 use Rattle.rule_store.proofs.take_lines.Goals as goal
 
 pub loop-line-init : goal.loop-line-init
@@ -23,8 +23,8 @@ pub put_line-requires : goal.put_line-requires
 put_line-requires c =
     (holds-words (c.loop-line.invariant c.requires.m (started c.requires.holds)).held, holds-numbers (c.loop-line.invariant c.requires.m (started c.requires.holds)).held)
 
-pub see-q-requires : goal.see-q-requires
-see-q-requires c =
+pub see-requires : goal.see-requires
+see-requires c =
     let t = c.loop-line.invariant c.requires.m (started c.requires.holds) in let h = (c.next_own.ensures.line _ c.in-Some.is) in
     omega (arith, t.going.sketched.long, t.going.below, h.after, h.some, h.inside)
 
@@ -34,9 +34,9 @@ loop-line-smaller c =
 
 pub loop-line-preserved : goal.loop-line-preserved
 loop-line-preserved c =
-    λ m st. taking-on (c.loop-line.invariant m st) _ (c.next_own.ensures.line _ c.in-Some.is) c.own_bytes.result.now
-    c.own_bytes.ensures st.links-are c.in-Ok.said c.in-Ok.ensures.result_value c.in-Ok.ensures.line_fits st.base-is _ _
-    c.put_line.ensures c.see-q.result c.see-q.ensures
+    λ m st. taking-seen (c.loop-line.invariant m st) _ (c.next_own.ensures.line _ c.in-Some.is) c.own_bytes.result.now
+    c.own_bytes.ensures st.links-are c.read_line-read.result c.read_line-read.ensures.result_value c.read_line-read.ensures.line_fits c.see.result c.see.ensures
+    c.in-Ok.next c.in-Ok.is st.base-is _ _ c.put_line.ensures
 
 pub erase_clauses-requires : goal.erase_clauses-requires
 erase_clauses-requires c =
@@ -45,8 +45,9 @@ erase_clauses-requires c =
 
 pub returns-in-Err : goal.returns-in-Err
 returns-in-Err c =
-    λ m h. let st = started h in taking-bad (c.loop-line.invariant m st) _ (c.next_own.ensures.line _ c.in-Some.is)
-    c.own_bytes.result.now c.own_bytes.ensures st.links-are _ c.in-Err.ensures.result_value (λ cs. c.erase_clauses.ensures c.args.text.now m _ _ _ cs h st.base-is)
+    λ m h. let st = started h in taking-unseen (c.loop-line.invariant m st) _ (c.next_own.ensures.line _ c.in-Some.is)
+    c.own_bytes.result.now c.own_bytes.ensures st.links-are c.read_line-read.result c.read_line-read.ensures.result_value c.read_line-read.ensures.line_fits c.see.result c.see.ensures
+    _ c.in-Err.is (λ cs. c.erase_clauses.ensures c.args.text.now m _ _ _ cs h st.base-is)
 
 pub returns : goal.returns
 returns c =
