@@ -17,7 +17,11 @@ use write_text::Plain;
 fn refused(reasons: &[u8; table_rows::LINES_ROOM]) -> usize
     ensures { result ≤ room_lines }
 {
-    reasons.iter().filter(|reason| **reason != 0).count()
+    let mut n = 0;
+    for reason in reasons {
+        n += usize::from(*reason != 0);
+    }
+    n
 }
 
 // The lines and rules that are refused, and the rule that is open at the end.
@@ -86,8 +90,14 @@ fn heading<W: Write>(out: &mut W, of: &str) -> io::Result<()> {
 // ---- by rule
 
 // The number of the line that has the byte at `at`.
+// A sum and no `filter` and `count`: it runs over the text for each rule, and so the compiler takes many bytes at a time.
 fn line_of(text: &[u8], at: usize) -> usize {
-    text.iter().take(at).filter(|b| **b == b'\n').count() + 1
+    let before = leaf_letters::cut(text, 0, at);
+    let mut n = 0;
+    for b in before {
+        n += usize::from(*b == b'\n');
+    }
+    n + 1
 }
 
 fn show_rules<W: Write>(out: &mut W, stored: Stored) -> io::Result<()> {
