@@ -13,7 +13,7 @@ use write_text::Plain;
 
 // ---- whether the sheet is whole
 
-// A refused line has a reason, and so has the first line of a refused rule.
+// A refused line has a reason, and so has the first line of a refused rule. A sum, as `line_of` is, and for its reason.
 fn refused(reasons: &[u8; table_rows::LINES_ROOM]) -> usize
     ensures { result ≤ room_lines }
 {
