@@ -89,7 +89,8 @@ fn is_word(s: &[u8], w: &[u8]) -> bool
 }
 
 // ---- a number, part by part: each function reads what is left, as the definition of the same part
-// in specs/Numbers.antt does
+// in specs/Numbers.antt does. Each is called in one place, so that the compiler can make one function of
+// them: from call to call an answer goes through memory (docs/LOOK-BACK.md, d2).
 
 // s is an exponent after its sign.
 fn read_power(minus: bool, w: u64, frac: usize, back: bool, s: &[u8]) -> Result<f64, NumberError>
@@ -102,11 +103,12 @@ fn read_power(minus: bool, w: u64, frac: usize, back: bool, s: &[u8]) -> Result<
     if n == 0 || n < s.len() {
         return Err(NumberError::Malformed);
     }
-    if back {
-        valued(minus, w, 0, frac + x.min(23))
+    let (up, down) = if back {
+        (0, frac + x.min(23))
     } else {
-        valued(minus, w, x, frac)
-    }
+        (x, frac)
+    };
+    valued(minus, w, up, down)
 }
 
 // s is what follows the letter e.
@@ -117,10 +119,11 @@ fn read_exponent(minus: bool, w: u64, frac: usize, s: &[u8]) -> Result<f64, Numb
     let [b, rest @ ..] = s else {
         return Err(NumberError::Malformed);
     };
-    match leaf_digits::class_of(*b) {
-        Class::Sign => read_power(minus, w, frac, *b == b'-', rest),
-        _ => read_power(minus, w, frac, false, s),
-    }
+    let (back, digits) = match leaf_digits::class_of(*b) {
+        Class::Sign => (*b == b'-', rest),
+        _ => (false, s),
+    };
+    read_power(minus, w, frac, back, digits)
 }
 
 // s is what follows the digits: `count` of them, `frac` of them after the point.
@@ -145,21 +148,17 @@ fn read_point(minus: bool, w: u64, count: usize, s: &[u8]) -> Result<f64, Number
     requires { (w ≤ cap) × (count < 2 ^ 63) }
     ensures { result ≡ outcome (point minus w count s.now) }
 {
-    let [b, rest @ ..] = s else {
-        return read_ending(minus, w, count, 0, s);
-    };
-    match leaf_digits::class_of(*b) {
-        Class::Point => {
-            let d = leaf_digits::leading(rest, w);
-            let n = d.len;
-            // Digits, a point, digits and the end, as most numbers are written.
-            if n > 0 && n == rest.len() {
-                return valued(minus, d.value, 0, n);
+    let (w, count, frac, rest) = match s {
+        [] => (w, count, 0, s),
+        [b, rest @ ..] => match leaf_digits::class_of(*b) {
+            Class::Point => {
+                let d = leaf_digits::leading(rest, w);
+                (d.value, count + d.len, d.len, &rest[d.len..])
             }
-            read_ending(minus, d.value, count + n, n, &rest[n..])
-        }
-        _ => read_ending(minus, w, count, 0, s),
-    }
+            _ => (w, count, 0, s),
+        },
+    };
+    read_ending(minus, w, count, frac, rest)
 }
 
 // s is a number after its sign.
@@ -190,10 +189,11 @@ pub fn read_number(s: &[u8]) -> Result<f64, NumberError>
     let [b, rest @ ..] = s else {
         return Err(NumberError::Malformed);
     };
-    match leaf_digits::class_of(*b) {
-        Class::Sign => read_unsigned(*b == b'-', rest),
-        _ => read_unsigned(false, s),
-    }
+    let (minus, digits) = match leaf_digits::class_of(*b) {
+        Class::Sign => (*b == b'-', rest),
+        _ => (false, s),
+    };
+    read_unsigned(minus, digits)
 }
 
 // ---- a plain number, as most are written: digits, or digits, a point and digits, and then whitespace or the text's end

@@ -12,6 +12,8 @@ use leaf_decimals::NumberError;
 use scope::Reason;
 
 // What number the next field is, and a place from which on the others stand; None where no field is left.
+// It stays a call, and so does `whole_number`: few numbers need it, and taken into the loop of a section it slows the plain ones (docs/LOOK-BACK.md, d2).
+#[inline(never)]
 fn read_next(l: &[u8], at: usize) -> Option<(Result<f64, NumberError>, usize)>
     ensures { Numbered l.now at result }
 {
@@ -49,6 +51,7 @@ pub fn take_number(l: &[u8], at: usize) -> Result<(f64, usize), Reason>
 }
 
 // What number a text is that is one field. Most are plain here too.
+#[inline(never)]
 fn whole_number(s: &[u8]) -> Result<f64, NumberError>
     ensures { result ≡ number_of s.now }
 {

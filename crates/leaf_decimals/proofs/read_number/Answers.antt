@@ -13,6 +13,7 @@ use Rattle.leaf_decimals.specs.Numbers.{unsigned, outcome}
 use Rattle.leaf_digits.proofs.Classes.{is-class, not-class}
 use Rattle.leaf_digits.proofs.Lists.{tail_of}
 use Rattle.leaf_decimals.proofs.Reading.{number-nil, number-sign, number-none}
+use Rattle.leaf_decimals.proofs.read_number.Goals.{in-Sign, in_default-class_of}
 use Rattle.leaf_decimals.proofs.read_number.Goals as goal
 
 pub returns-in_default : goal.returns-in_default
@@ -20,21 +21,18 @@ returns-in_default c =
     let p = both-clauses c.args.s.now (Err Malformed) (sym (number-nil _ (omega arith))) in
     record { value = p.0; nearest = p.1 }
 
-pub returns-in-Sign : goal.returns-in-Sign
-returns-in-Sign c =
+pub returns : goal.returns
+returns c =
     let s : List ℕ = c.args.s.now in
     let h : 0 < length s = omega arith in
     let p = both-clauses s c.read_unsigned.result
-    (c.read_unsigned.ensures
-    ∙ ap (λ (l : List ℕ). outcome (unsigned (eqb (get_or s 0 0) 45) l)) (tail_of s 1)
-    ∙ sym (number-sign s h (is-class Sign _ c.class_of.ensures c.in-Sign.is))) in
-    record { value = p.0; nearest = p.1 }
-
-pub returns-in_default-class_of : goal.returns-in_default-class_of
-returns-in_default-class_of c =
-    let s : List ℕ = c.args.s.now in
-    let h : 0 < length s = omega arith in
-    let p = both-clauses s c.read_unsigned-in_default-class_of.result
-    (c.read_unsigned-in_default-class_of.ensures
-    ∙ sym (number-none s h (not-class Sign _ c.class_of.ensures c.in_default-class_of.not-Sign))) in
+    (c.read_unsigned.ensures ∙ elim c.match-class_of.branch [
+      | in-Sign w ↦
+          ap (λ p. outcome (unsigned p.0 p.1.now)) w.minus-is
+          ∙ ap (λ (l : List ℕ). outcome (unsigned (eqb (get_or s 0 0) 45) l)) (tail_of s 1)
+          ∙ sym (number-sign s h (is-class Sign _ c.class_of.ensures w.in-Sign.is))
+      | in_default-class_of w ↦
+          ap (λ p. outcome (unsigned p.0 p.1.now)) w.minus-is
+          ∙ sym (number-none s h (not-class Sign _ c.class_of.ensures w.in_default-class_of.not-Sign))
+    ]) in
     record { value = p.0; nearest = p.1 }

@@ -12,6 +12,7 @@ use Rattle.leaf_digits.specs.Cap.{cap}
 use Rattle.leaf_digits.specs.Digits.{digits, value}
 use Rattle.leaf_decimals.proofs.Meaning.{meaning-cap-up, meaning-cap-down}
 use Rattle.leaf_decimals.proofs.Reading.{power-none, power-more, power-back, power-forth}
+use Rattle.leaf_decimals.proofs.read_power.Goals.{then-back, else-back}
 use Rattle.leaf_decimals.proofs.read_power.Goals as goal
 
 -- past 22 the power is beyond reach, and 23 says so
@@ -27,18 +28,21 @@ returns-then-n-eq0 c =
     let l = c.leading-d.ensures.0 in
     ⊎_elim (λ e. sym (power-none _ _ _ _ _ (sym l ∙ e))) (λ h. sym (power-more _ _ _ _ s (subst (λ (n : ℕ). n < length s) l h.1))) c.then-n-eq0.either
 
-pub returns-then-back : goal.returns-then-back
-returns-then-back c =
-    let s : List ℕ = c.args.s.now in
+pub returns : goal.returns
+returns c =
+    let a = c.args in
+    let s : List ℕ = a.s.now in
     let l = c.leading-d.ensures in
-    c.valued.ensures ∙ ap (λ (n : ℕ). meaning c.args.minus c.args.w 0 (c.args.frac + n)) c.min.ensures ∙ back-law _ _ (value 0 (digits s)) _ _ l.1
-    ∙ sym (power-back _ _ _ s (λ e. c.if-n-eq0.false (l.0 ∙ e)) (subst (λ (n : ℕ). length s ≤ n) l.0 c.if-n-s.false) _ c.if-back.true)
-
-pub returns-else-back : goal.returns-else-back
-returns-else-back c =
-    let s : List ℕ = c.args.s.now in
-    let l = c.leading-d.ensures in
-    c.valued-else-back.ensures
-    ∙ ap (λ (x : ℕ). meaning c.args.minus c.args.w x c.args.frac) l.1
-    ∙ meaning-cap-up _ _ (value 0 (digits s)) _ c.requires
-    ∙ sym (power-forth _ _ _ s (λ e. c.if-n-eq0.false (l.0 ∙ e)) (subst (λ (n : ℕ). length s ≤ n) l.0 c.if-n-s.false) _ c.if-back.false)
+    let all : length s ≤ length (digits s) = subst (λ (n : ℕ). length s ≤ n) l.0 c.if-n-s.false in
+    c.valued.ensures ∙ elim c.if-back.branch [
+      | then-back w ↦
+          ap (λ p. meaning a.minus a.w p.0 p.1) w.up-is
+          ∙ ap (λ (n : ℕ). meaning a.minus a.w 0 (a.frac + n)) w.min.ensures
+          ∙ back-law _ _ (value 0 (digits s)) _ _ l.1
+          ∙ sym (power-back _ _ _ s (λ e. c.if-n-eq0.false (l.0 ∙ e)) all _ w.if-back.true)
+      | else-back w ↦
+          ap (λ p. meaning a.minus a.w p.0 p.1) w.up-is
+          ∙ ap (λ (x : ℕ). meaning a.minus a.w x a.frac) l.1
+          ∙ meaning-cap-up _ _ (value 0 (digits s)) _ c.requires
+          ∙ sym (power-forth _ _ _ s (λ e. c.if-n-eq0.false (l.0 ∙ e)) all _ w.if-back.false)
+    ]
