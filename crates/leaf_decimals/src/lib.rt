@@ -89,8 +89,8 @@ fn is_word(s: &[u8], w: &[u8]) -> bool
 }
 
 // ---- a number, part by part: each function reads what is left, as the definition of the same part
-// in specs/Numbers.antt does. Each is called in one place, so that the compiler can make one function of
-// them: from call to call an answer goes through memory (docs/LOOK-BACK.md, d2).
+// in specs/Numbers.antt does. Each but the last is called in one place, so that the compiler can make one
+// function of them: from call to call an answer goes through memory (docs/LOOK-BACK.md, d2).
 
 // s is an exponent after its sign.
 fn read_power(minus: bool, w: u64, frac: usize, back: bool, s: &[u8]) -> Result<f64, NumberError>
@@ -189,11 +189,11 @@ pub fn read_number(s: &[u8]) -> Result<f64, NumberError>
     let [b, rest @ ..] = s else {
         return Err(NumberError::Malformed);
     };
-    let (minus, digits) = match leaf_digits::class_of(*b) {
+    let (minus, rest) = match leaf_digits::class_of(*b) {
         Class::Sign => (*b == b'-', rest),
         _ => (false, s),
     };
-    read_unsigned(minus, digits)
+    read_unsigned(minus, rest)
 }
 
 // ---- a plain number, as most are written: digits, or digits, a point and digits, and then whitespace or the text's end
