@@ -12,7 +12,7 @@ use leaf_decimals::NumberError;
 use scope::Reason;
 
 // What number the next field is, and a place from which on the others stand; None where no field is left.
-// It stays a call, and so does `whole_number`: a plain number needs neither, and taken into the loop of a section they slow it (docs/LOOK-BACK.md, d2).
+// It stays a call, and so does `whole_number`: the reader of any number is in both, and in the loop of a section it slows the plain ones (docs/LOOK-BACK.md, d2).
 #[inline(never)]
 fn read_next(l: &[u8], at: usize) -> Option<(Result<f64, NumberError>, usize)>
     ensures { Numbered l.now at result }
